@@ -9,7 +9,7 @@ use lib.ListN.{length, replicate}
 use lib.Pow.{pow-pos}
 use Rattle.algebra.proofs.Rows.{none≢some, lead-place, lead-value}
 use Rattle.algebra.proofs.Only.{no-row}
-use Rattle.algebra.proofs.Snoc.{nth-bound, nth-unsnoc, lead-snoc, lead-cons, lead-unsnoc}
+use Rattle.algebra.proofs.LastPlace.{nth-bound, nth-unsnoc, lead-snoc, lead-cons, lead-unsnoc}
 use Rattle.algebra.specs.Vec.{snoc}
 use Rattle.algebra.specs.Rows.{nth, Lead, Row, here, there, Best}
 use Rattle.algebra.specs.Tell.{extend}

@@ -7,9 +7,9 @@ use native.Mathlib.Omega.{arith}
 use native.Mathlib.Decide.{ℕ-discrete}
 use Rattle.algebra.proofs.Fit.{Submodule, Inside}
 use Rattle.algebra.proofs.Insert.{Falls, falls-le}
-use Rattle.algebra.proofs.Howells.{in-sub, in-least, inside-mono, inside-self}
-use Rattle.algebra.proofs.Grow.{each-map, inside-full, fits-full, fine-grow, howell-grow, inside-grow, in-grow, falls-grow}
-use Rattle.algebra.proofs.Gen.{sub-map}
+use Rattle.algebra.proofs.FormSpans.{in-sub, in-least, inside-mono, inside-self}
+use Rattle.algebra.proofs.Insertions.{each-map, inside-full, fits-full, fine-grow, howell-grow, inside-grow, in-grow, falls-grow}
+use Rattle.algebra.proofs.Generated.{sub-map}
 use Rattle.algebra.specs.Span.{Fit, Each}
 use Rattle.algebra.specs.Form.{Form, WellFormed, In, Howell, weight, grow, full}
 use Rattle.algebra.specs.System.{Linear, through, Edge, On, first, later}

@@ -6,7 +6,7 @@ use native.Mathlib.Omega.{arith}
 use native.Mathlib.Nat.{suc-inj}
 use lib.ListN.{replicate, length-replicate}
 use lib.Pow.{pow-pos}
-use Rattle.algebra.proofs.Mod.{mods, by-zero}
+use Rattle.algebra.proofs.Modular.{mods, by-zero}
 use Rattle.algebra.proofs.Vec.{cons-≡, below-head, below-tail, below-cons, below-plus, below-times, below-zero, length-plus, length-times, plus-comm, plus-zero}
 use Rattle.algebra.specs.Vec.{neg, plus, times, less}
 use Rattle.algebra.specs.Span.{Fit}

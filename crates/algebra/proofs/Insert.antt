@@ -1,4 +1,4 @@
--- a row put into a form: what it then spans
+-- a row inserted into a form: what it then spans
 use mathlib.Core.Path.{_≡_, refl, sym, ap, _∙_, subst}
 use mathlib.Core.Logic.{_⊎_, inl, inr, _↔_}
 use mathlib.Core.Bool.{Bool, true, false, not}
@@ -11,7 +11,7 @@ use lib.Pow.{pow-add}
 use lib.Count.{trailingZeros, trailing-le}
 use lib.Dec.{T, leb, le→leb}
 use lib.Arith.{lt→nleb}
-use Rattle.algebra.proofs.Mod.{mul-mod-mod, mods, push, pull, red, out, by-zero, by-small}
+use Rattle.algebra.proofs.Modular.{mul-mod-mod, mods, push, pull, red, out, by-zero, by-small}
 use Rattle.algebra.proofs.Vec.{cons-≡, times-times, times-mod, times-one, mod-small}
 use Rattle.algebra.proofs.Span.{back}
 use Rattle.algebra.proofs.Units.{inverse-is, quotient, odd-rest}
@@ -102,7 +102,7 @@ module _ (w : ℕ) {n : ℕ} {S : List ℕ → Type 0} (sub : Submodule w (suc n
       head : (0 + (2 ^ d * (2 ^ i % 2 ^ w)) % 2 ^ w) % 2 ^ w ≡ 2 ^ (i + d) % 2 ^ w
       head = rw (pow-add 2 i d) (simp push (simp pull (ap (red (2 ^ w)) (omega arith))))
 
--- the universal property: a form with a row put in is inside a submodule just if the form and the row are
+-- the universal property: a form with a row inserted is inside a submodule exactly if the form and the row are
 pub inside-insert : (w : ℕ) {n : ℕ} {f : Form} → WellFormed w n f → (S : List ℕ → Type 0) (v : List ℕ) → Submodule w n S → Fit w n v → Inside w S (insert w f v) ↔ (Inside w S f × S v)
 unfolding insert
 inside-insert w no-slots S [] sub fv = (λ _. (tt, sub .zeros), λ _. tt)
@@ -134,7 +134,7 @@ inside-insert w (slot-on {n = m} {e} {t} {f} le ft fine) S (x ∷ v) sub fv = el
         sum-is : i + (e - i) ≡ e
         sum-is = omega arith
 
--- a row put in leaves a form
+-- a row inserted leaves a form
 pub fine-insert : (w : ℕ) {n : ℕ} {f : Form} → WellFormed w n f → (v : List ℕ) → Fit w n v → WellFormed w n (insert w f v)
 unfolding insert
 fine-insert w no-slots v fv = no-slots

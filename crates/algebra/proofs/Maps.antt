@@ -9,12 +9,12 @@ use Rattle.algebra.proofs.Vec.{plus-comm}
 use Rattle.algebra.proofs.Sums.{Sized, length-sum, below-sum}
 use Rattle.algebra.proofs.Span.{all-spanned, span-add}
 use Rattle.algebra.proofs.Fit.{Submodule}
-use Rattle.algebra.proofs.Snoc.{fit-flip, fits-flips, flip-flip, flip-sums, flip-zero}
+use Rattle.algebra.proofs.LastPlace.{fit-flip, fits-flips, flip-flip, flip-sums, flip-zero}
 use Rattle.algebra.proofs.Best.{best-same}
 use Rattle.algebra.proofs.Tell.{length-fine}
-use Rattle.algebra.proofs.Howells.{in-sub}
-use Rattle.algebra.proofs.Grow.{made-fine, made-has, made-least}
-use Rattle.algebra.proofs.Double.{each-row, each-to, best-annihilator, sized-each, span-sub, span-rows, span-fit}
+use Rattle.algebra.proofs.FormSpans.{in-sub}
+use Rattle.algebra.proofs.Insertions.{made-fine, made-has, made-least}
+use Rattle.algebra.proofs.Annihilators.{each-row, each-to, best-annihilator, sized-each, span-sub, span-rows, span-fit}
 use Rattle.algebra.specs.Vec.{plus, times, sum, flip, flips}
 use Rattle.algebra.specs.Rows.{Best}
 use Rattle.algebra.specs.Span.{Fit, Closed, Span, Each}

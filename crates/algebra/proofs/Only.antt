@@ -9,7 +9,7 @@ use native.Mathlib.Decide.{decLe}
 use native.Mathlib.Nat.{mod-eq-of-lt, add-mul-mod-self-right, mod-mod-of-dvd, dvd-mul-left}
 use lib.ListN.{replicate}
 use lib.Pow.{pow-add, pow-mono}
-use Rattle.algebra.proofs.Mod.{push, pull, out, by}
+use Rattle.algebra.proofs.Modular.{push, pull, out, by}
 use Rattle.algebra.proofs.Vec.{cons-≡}
 use Rattle.algebra.proofs.Rows.{nth-plus, nth-times, nth-below, Low, low-nth, low-plus, lead-place, lead-value, no-lead, sub-self, same-of-zero}
 use Rattle.algebra.specs.Vec.{neg, plus, times}

@@ -2,15 +2,16 @@
 use Rattle.algebra.proofs.Only.{only}
 use Rattle.algebra.proofs.Units.{inverse-is}
 use Rattle.algebra.proofs.Insert.{fine-insert, weight-insert}
-use Rattle.algebra.proofs.Howells.{span-insert, howell-insert}
-use Rattle.algebra.proofs.Grow.{weight-fine}
+use Rattle.algebra.proofs.FormSpans.{span-insert, howell-insert}
+use Rattle.algebra.proofs.Insertions.{weight-fine, made-fine, made-howell}
 use Rattle.algebra.proofs.Tell.{best-tell}
-use Rattle.algebra.proofs.Double.{double, best-annihilator, ann-ann, best-howell}
-use Rattle.algebra.proofs.Maps.{span-closed, length-annihilator, length-howell}
-use Rattle.algebra.proofs.Grows.{grows-so-often}
+use Rattle.algebra.proofs.Annihilators.{double, best-annihilator, ann-ann, best-howell}
+use Rattle.algebra.proofs.Maps.{made-spans, span-closed, length-annihilator, length-howell}
+use Rattle.algebra.proofs.Growth.{grows-so-often}
 use Rattle.algebra.proofs.System.{forms, forms-fine, forms-howell, forms-exact, forms-starts, forms-closed, forms-least}
 use Rattle.algebra.specs.Span.{Span}
-use Rattle.algebra.specs.Theorems.{Inserting, Annihilating, Systems, Algebra}
+use Rattle.algebra.specs.Form.{form-of}
+use Rattle.algebra.specs.Theorems.{Inserting, Annihilating, Systems, Systems-of-rows, Algebra}
 
 inserting : Inserting
 inserting = record {
@@ -18,6 +19,7 @@ inserting = record {
   howell = λ w n f v well h fv. (fine-insert w well v fv, howell-insert w well h v fv);
   falls = weight-insert;
   bounded = λ w n f well. weight-fine w well;
+  rows = λ w n vs fits. (made-fine w n vs fits, made-howell w n vs fits, made-spans w n vs fits);
   grows = grows-so-often;
 }
 
@@ -43,5 +45,8 @@ systems w n es lin start well howell = record {
   least = λ gs well-gs has goes. forms-least w n es lin start well howell gs well-gs has goes;
 }
 
+systems-of-rows : Systems-of-rows
+systems-of-rows w n es lin rows fits = systems w n es lin (λ p. form-of w n (rows p)) (λ p. made-fine w n (rows p) (fits p)) (λ p. made-howell w n (rows p) (fits p))
+
 pub algebra : Algebra
-algebra = record { inverses = inverse-is; inserting = inserting; annihilating = annihilating; systems = systems }
+algebra = record { inverses = inverse-is; inserting = inserting; annihilating = annihilating; systems = systems; systems-of-rows = systems-of-rows }

@@ -8,7 +8,7 @@ use native.Mathlib.Omega.{arith}
 use native.Mathlib.Nat.{mod-eq-of-lt, suc-inj, zero-add, le-of-suc-le-suc, not-suc-le-zero}
 use lib.ListN.{length, replicate, take}
 use lib.Dec.{T}
-use Rattle.algebra.proofs.Mod.{mods, push, pull, out, by, by-zero}
+use Rattle.algebra.proofs.Modular.{mods, push, pull, out, by, by-zero}
 use Rattle.algebra.proofs.Vec.{cons-≡, below-head, below-tail}
 use Rattle.algebra.specs.Vec.{neg, below, plus, times}
 use Rattle.algebra.specs.Rows.{nth, Lead}

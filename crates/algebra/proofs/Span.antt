@@ -7,7 +7,7 @@ use native.Mathlib.Omega.{arith}
 use native.Mathlib.Nat.{suc-inj}
 use lib.ListN.{length, replicate, length-replicate}
 use lib.Dec.{T}
-use Rattle.algebra.proofs.Mod.{push, pull, out, by-zero, by-small}
+use Rattle.algebra.proofs.Modular.{push, pull, out, by-zero, by-small}
 use Rattle.algebra.proofs.Vec.{cons-≡, below-head, below-tail, length-plus, length-times, plus-comm, times-zero, times-one, plus-zero}
 use Rattle.algebra.proofs.Sums.{Sized, no-rows, row-on, length-sum, sum-plus, sum-times, zero-plus-zero}
 use Rattle.algebra.proofs.Rows.{none≢some, nth-some, Low, low-more, low-plus, low-all}
@@ -39,7 +39,7 @@ span-row w {n} {r} (row-on {r = s} {rs} e z) b (there h) =
     let a = span-row w z b h in
     record { weights = 0 ∷ a .weights; many = ap suc (a .many); gives = rw (times-zero w s, e, a .gives) (plus-comm w (replicate n 0) r ∙ plus-zero w n r (ap length (sym (a .gives)) ∙ length-sum w (a .weights) z) b) }
 
--- a multiple taken away and put back
+-- a multiple subtracted and added again
 pub back : (w k : ℕ) (cs rs : List ℕ) → length cs ≡ length rs → T (below (2 ^ w) cs) → plus w (plus w cs (times w (neg w * k) rs)) (times w k rs) ≡ cs
 back w k [] rs e b = refl
 back w k (c ∷ cs) [] e b = absurd (omega arith)

@@ -3,8 +3,8 @@ use mathlib.Core.Logic.{_↔_}
 use mathlib.Core.List.{List}
 use Prim.Native.Nat.{ℕ}
 use Rattle.algebra.proofs.Fit.{Submodule}
-use Rattle.algebra.proofs.Howells.{in-sub, in-least, inside-mono, inside-self}
-use Rattle.algebra.proofs.Gen.{sub-map, gen-least, gen-one, gen-sub}
+use Rattle.algebra.proofs.FormSpans.{in-sub, in-least, inside-mono, inside-self}
+use Rattle.algebra.proofs.Generated.{sub-map, gen-least, gen-one, gen-sub}
 use Rattle.algebra.proofs.Closure.{Good, Closure, closure}
 use Rattle.algebra.specs.Span.{Fit}
 use Rattle.algebra.specs.Form.{Form, WellFormed, In, Howell}

@@ -7,13 +7,13 @@ use native.Mathlib.Nat.{mod-lt, mul-comm, add-zero, zero-add, mul-div-cancel, mu
 use lib.ListN.{length, replicate}
 use lib.Pow.{pow-add, pow-mono, pow-pos, pow-lt}
 use lib.Arith.{mod-mul}
-use Rattle.algebra.proofs.Mod.{mods, push, pull, red, out, by-zero, neg-suc}
+use Rattle.algebra.proofs.Modular.{mods, push, pull, red, out, by-zero, neg-suc}
 use Rattle.algebra.proofs.Vec.{dot-mod, dot-comm, dot-times, mod-small}
 use Rattle.algebra.proofs.Sums.{dot-zero}
 use Rattle.algebra.proofs.Fit.{fit-times, fit-zero, fit-cons, fit-nought, Submodule, Tail}
-use Rattle.algebra.proofs.Howells.{in-least, in-later, in-first, inside-mono, inside-self, cancel}
-use Rattle.algebra.proofs.Grow.{dot-less}
-use Rattle.algebra.proofs.Snoc.{fit-snoc, fit-unsnoc, fit-flip, unsnoc, dot-snoc, flip-times, flip-sums, flip-zero}
+use Rattle.algebra.proofs.FormSpans.{in-least, in-later, in-first, inside-mono, inside-self, cancel}
+use Rattle.algebra.proofs.Insertions.{dot-less}
+use Rattle.algebra.proofs.LastPlace.{fit-snoc, fit-unsnoc, fit-flip, unsnoc, dot-snoc, flip-times, flip-sums, flip-zero}
 use Rattle.algebra.proofs.Best.{best-none, best-extend, best-append}
 use Rattle.algebra.specs.Vec.{neg, times, dot, snoc, flip}
 use Rattle.algebra.specs.Rows.{Best}
@@ -50,7 +50,7 @@ module _ (w : ℕ) {n e : ℕ} {t : List ℕ} {f : Form} (le : e ≤ w) (ft : Fi
   later-dot : (c : List ℕ) (y : ℕ) (v : List ℕ) → Fit w n c → Fit w n v → dot w (snoc c y) (flip (0 ∷ v)) ≡ dot w c (flip v)
   later-dot c y v fc fv = dot-snoc w y 0 c (flip v) (fc .sized ∙ sym (fit-flip w fv .sized)) ∙ ap (λ (z : ℕ). z % 2 ^ w) (omega arith) ∙ dot-mod w c (flip v)
 
-  -- so a longer row annihilates the longer form just if the shorter does the shorter, and the new row comes to 0
+  -- so a longer row annihilates the longer form exactly if the shorter does the shorter, and the new row comes to 0
   pub ann-up : (c : List ℕ) (y : ℕ) → y < 2 ^ w → Annihilates w n f c → (dot w c (flip t) + y * 2 ^ e) % 2 ^ w ≡ 0 → Annihilates w (suc n) (slot e t ∷ f) (snoc c y)
   ann-up c y h a g = record { fits = fit-snoc w h (a .fits); kills = in-least w (slot-on le ft fine) (Killed w (snoc c y)) (killed-sub w (suc n) (snoc c y)) (first-dot c y (a .fits) ∙ g, inside-mono w fine (In w f) (Tail (Killed w (snoc c y))) (λ v fv i. later-dot c y v (a .fits) fv ∙ a .kills v fv i) (inside-self w fine)) }
 

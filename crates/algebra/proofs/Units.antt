@@ -7,7 +7,7 @@ use native.Mathlib.Nat.{mod-mod-of-dvd, dvd-mul-left, add-mul-mod-self-left, pow
 use lib.Pow.{pow-add, pow-pos, pow-lt}
 use lib.Count.{trailingZeros, under, trailing-of-zero}
 use native.Mathlib.Decide.{decLe}
-use Rattle.algebra.proofs.Mod.{mul-mod-mod, neg-suc}
+use Rattle.algebra.proofs.Modular.{mul-mod-mod, neg-suc}
 use Rattle.algebra.specs.Vec.{neg}
 use Rattle.algebra.specs.Inverse.{newton, rounds, inverse}
 

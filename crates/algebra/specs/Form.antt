@@ -21,7 +21,7 @@ slot e t = record { exp = e; rest = t }
 abbrev pub Form : Type 0
 Form = List Slot
 
--- a vector put into a form: at each place the row with more zeros below is reduced by the other, and goes on
+-- a vector inserted into a form: at each place the row with more zeros below is reduced by the other, and goes on
 unfoldable pub insert : ℕ → Form → List ℕ → Form
 insert w [] v = []
 insert w (s ∷ f) [] = s ∷ f
@@ -65,6 +65,10 @@ nothing w (suc n) = slot w (replicate n 0) ∷ nothing w n
 abbrev pub everything : ℕ → Form
 everything zero = []
 everything (suc n) = slot 0 (replicate n 0) ∷ everything n
+
+-- the form of rows of n places
+abbrev pub form-of : ℕ → ℕ → List (List ℕ) → Form
+form-of w n vs = grow w (nothing w n) vs
 
 -- the rows of the slots, whole
 unfoldable pub shift : List (List ℕ) → List (List ℕ)

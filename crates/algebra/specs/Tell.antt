@@ -6,7 +6,7 @@ use Prim.Native.Nat.{ℕ, zero, suc, _*_, _%_, _/_, _-_, _^_}
 use lib.ListN.{length, replicate}
 use Rattle.algebra.specs.Vec.{neg, dot, snoc, flip, flips}
 use Rattle.algebra.specs.Span.{Fit}
-use Rattle.algebra.specs.Form.{Slot, Form, In, nothing, grow}
+use Rattle.algebra.specs.Form.{Slot, Form, In, form-of}
 
 -- what a row of the later slots' annihilator gets at the slot's place: the least number that makes the slot's row come to 0
 unfoldable pub extra : ℕ → Slot → List ℕ → ℕ
@@ -29,7 +29,7 @@ tell w (s ∷ f) = extend (extra w s) (tell w f) ++ final w (s .exp) (length f)
 -- the annihilator of rows of n places; and the rows of their span in Howell's reduced form, the annihilator's annihilator
 unfoldable pub annihilator : ℕ → ℕ → List (List ℕ) → List (List ℕ)
 unfolding tell
-annihilator w n rs = tell w (grow w (nothing w n) (flips rs))
+annihilator w n rs = tell w (form-of w n (flips rs))
 
 unfoldable pub howell-rows : ℕ → ℕ → List (List ℕ) → List (List ℕ)
 unfolding annihilator

@@ -10,7 +10,7 @@ use Rattle.algebra.specs.Vec.{dot, less, flip}
 use Rattle.algebra.specs.Rows.{Best}
 use Rattle.algebra.specs.Span.{Fit, Closed, Span, Each, Ann, Fresh}
 use Rattle.algebra.specs.Inverse.{inverse}
-use Rattle.algebra.specs.Form.{Form, insert, WellFormed, In, Howell, weight}
+use Rattle.algebra.specs.Form.{Form, insert, form-of, WellFormed, In, Howell, weight}
 use Rattle.algebra.specs.Tell.{tell, annihilator, howell-rows, Annihilates}
 use Rattle.algebra.specs.System.{Linear, Gen, Edge, On, Reach}
 
@@ -22,7 +22,7 @@ Spanned is = (w n : ℕ) (rs : List (List ℕ)) (c : List ℕ) → Closed w n is
 abbrev pub Unique : (List ℕ → Type 0) → Type 0
 Unique is = (w n : ℕ) (rs ss : List (List ℕ)) → Closed w n is → Best is rs → Best is ss → rs ≡ ss
 
--- a vector put into a form
+-- a vector inserted into a form
 pub record Inserting : Type 0 where
   -- the new form spans the old one and the vector, and no more
   pub spans : (w n : ℕ) (f : Form) (v u : List ℕ) → WellFormed w n f → Fit w n v → Fit w n u → In w (insert w f v) u ↔ ((k : ℕ) × In w f (less w u k v))
@@ -31,7 +31,9 @@ pub record Inserting : Type 0 where
   -- nothing changes, or the sum of the exponents falls, which is at most w for each place
   pub falls : (w : ℕ) (f : Form) (v : List ℕ) → (insert w f v ≡ f) ⊎ (weight (insert w f v) < weight f)
   pub bounded : (w n : ℕ) (f : Form) → WellFormed w n f → weight f ≤ w * n
-  -- so rows none of which is a sum of those before it are at most w for each place
+  -- the form of any rows, inserted one after the other, spans their sums
+  pub rows : (w n : ℕ) (vs : List (List ℕ)) → Each (Fit w n) vs → WellFormed w n (form-of w n vs) × Howell w (form-of w n vs) × ((u : List ℕ) → Fit w n u → In w (form-of w n vs) u ↔ Span w n vs u)
+  -- rows none of which is a sum of those before it are at most w for each place
   pub grows : (w n : ℕ) (vs : List (List ℕ)) → Fresh w n vs → length vs ≤ w * n
 
 -- what annihilates a form, and what annihilates rows
@@ -59,8 +61,15 @@ pub record Solved (w n : ℕ) (es : List Edge) (start : ℕ → Form) : Type 0 w
   pub closed : (e : Edge) → On e es → (u : List ℕ) → Fit w n u → In w (forms (e .from)) u → In w (forms (e .to)) (e .map u)
   pub least : (gs : ℕ → Form) → ((p : ℕ) → WellFormed w n (gs p)) → ((p : ℕ) (u : List ℕ) → Fit w n u → In w (start p) u → In w (gs p) u) → ((e : Edge) → On e es → (u : List ℕ) → Fit w n u → In w (gs (e .from)) u → In w (gs (e .to)) (e .map u)) → (p : ℕ) (u : List ℕ) → Fit w n u → In w (forms p) u → In w (gs p) u
 
+abbrev pub Linear-edges : ℕ → ℕ → List Edge → Type 0
+Linear-edges w n es = (e : Edge) → On e es → Linear w n (e .map)
+
+-- from any start forms, and from any start rows
 abbrev pub Systems : Type 0
-Systems = (w n : ℕ) (es : List Edge) → ((e : Edge) → On e es → Linear w n (e .map)) → (start : ℕ → Form) → ((p : ℕ) → WellFormed w n (start p)) → ((p : ℕ) → Howell w (start p)) → Solved w n es start
+Systems = (w n : ℕ) (es : List Edge) → Linear-edges w n es → (start : ℕ → Form) → ((p : ℕ) → WellFormed w n (start p)) → ((p : ℕ) → Howell w (start p)) → Solved w n es start
+
+abbrev pub Systems-of-rows : Type 0
+Systems-of-rows = (w n : ℕ) (es : List Edge) → Linear-edges w n es → (rows : ℕ → List (List ℕ)) → ((p : ℕ) → Each (Fit w n) (rows p)) → Solved w n es (λ p. form-of w n (rows p))
 
 pub record Algebra : Type 0 where
   -- odd numbers have inverses
@@ -69,3 +78,4 @@ pub record Algebra : Type 0 where
   pub annihilating : Annihilating
   -- linear systems are solved
   pub systems : Systems
+  pub systems-of-rows : Systems-of-rows

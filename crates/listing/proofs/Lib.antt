@@ -1,3 +1,4 @@
 pub mod Terms
 pub mod Placed
 pub mod Texts
+pub mod Parts

@@ -1,7 +1,7 @@
 -- the program that a text holds
 use mathlib.Core.Path.{_≡_, refl, sym, ap, ap₂, subst, _∙_}
 use mathlib.Core.Bool.{_&&_}
-use mathlib.Core.List.{List, _++_}
+use mathlib.Core.List.{List}
 use Prim.Native.Nat.{ℕ, _-_, _≤_}
 use native.Mathlib.Omega.{arith}
 use lib.Dec.{T, leb, leb→le}
@@ -22,7 +22,7 @@ use Rattle.text.specs.Numbers as text
 use Rattle.text.specs.Numbers.{meaningOf, answered}
 use Rattle.listing.specs.Laid.{Laid}
 use Rattle.listing.specs.Steps.{with-points}
-use Rattle.listing.specs.Report.{Fitting, Misfit, Holds, TextSays}
+use Rattle.listing.specs.Report.{Fitting, Misfit, TextSays}
 
 -- how many numbers there are, where none is wrong
 answer-ok : (ns : List ℕ) (f : Option Flaw) (n : ℕ) → _≡_ {A = Result ℕ Flaw} (Ok n) (answered ns f) → (f ≡ None) × (n ≡ length ns)

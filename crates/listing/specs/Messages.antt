@@ -15,14 +15,12 @@ use Rattle.text.specs.declared.types.What.the-variants.{NoNumber, TooLarge, Too
 use Rattle.text.specs.Numbers.{meaningOf}
 use Rattle.text.specs.Places.{placeOf}
 use Rattle.text.specs.Tokens.{word}
+use Rattle.listing.specs.Quotes.{with-quoted}
 use Rattle.listing.specs.declared.refusal.Refusal.{Refusal}
 use Rattle.listing.specs.declared.refusal.Refusal.the-variants.{Memory, Number, Program as NotProgram, WordNames, PointNames}
 
 abbrev pub with-place : List ℕ → ℕ → List ℕ → List ℕ
 with-place text at out = ((((out ++ codes "line ") ++ decimal (placeOf (take at text) .line)) ++ codes ", column ") ++ decimal (placeOf (take at text) .column)) ++ codes ": "
-
-abbrev pub with-quoted : List ℕ → List ℕ → List ℕ
-with-quoted part out = ((out ++ codes "'") ++ part) ++ codes "'"
 
 -- what is wrong with the token of a number
 abbrev pub with-what : What → List ℕ → List ℕ → List ℕ
@@ -66,7 +64,7 @@ abbrev pub with-wrong : List ℕ → List ℕ → Wrong → List ℕ → List �
 with-wrong text words e out = with-fault (e .fault) (getD words (e .at) 0) (with-place text (number-at text (min (e .at) (length words))) out ++ codes "no program: ")
 
 abbrev pub with-misfit : List ℕ → ℕ → ℕ → List ℕ → List ℕ
-with-misfit key names count out = ((((out ++ decimal names) ++ codes " names, but ") ++ decimal count) ++ codes " ") ++ key
+with-misfit key names count out = (((((out ++ codes "the line '# ") ++ key) ++ codes "' has ") ++ decimal names) ++ codes " names, not ") ++ decimal count
 
 abbrev pub with-cause : List ℕ → List ℕ → Refusal → List ℕ → List ℕ
 with-cause text words Memory out = out ++ codes "out of memory"

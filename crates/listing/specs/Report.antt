@@ -13,7 +13,7 @@ use Rattle.programs.specs.Plain.{base}
 use Rattle.programs.specs.Programs.{Program, Reads}
 use Rattle.programs.specs.Reading.{NoProgram}
 use Rattle.text.specs.Lines.{namesOf}
-use Rattle.text.specs.Numbers.{Meaning, meaningOf}
+use Rattle.text.specs.Numbers.{meaningOf}
 use Rattle.text.specs.Tokens.{tokens}
 use Rattle.listing.specs.declared.refusal.Refusal.{Refusal}
 use Rattle.listing.specs.declared.refusal.Refusal.the-variants.{Memory, Number, Program as NotProgram, WordNames, PointNames}

@@ -6,7 +6,7 @@ use Prim.Native.Nat.{ℕ, zero, suc}
 use lib.Chars.{codes}
 use lib.Dec.{eqb}
 use Rattle.std.specs.declared.option.Option.{Option}
-use Rattle.programs.specs.Programs.{Action, set, any, skip, Step, Program}
+use Rattle.programs.specs.Programs.{Action, set, any, skip, Step}
 use Rattle.listing.specs.Names.{with-name}
 use Rattle.listing.specs.Sums.{with-sum}
 

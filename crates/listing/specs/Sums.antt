@@ -1,7 +1,7 @@
 -- How a sum of words is written: the terms with a factor other than 0 in the order of the words, then the number.
 use mathlib.Core.Bool.{Bool, true, false, cond}
 use mathlib.Core.List.{List, [], _∷_, _++_}
-use Prim.Native.Nat.{ℕ, zero, suc, _-_}
+use Prim.Native.Nat.{ℕ, suc, _-_}
 use lib.Chars.{codes}
 use lib.Dec.{eqb, ltb}
 use Rattle.std.specs.Written.{decimal}

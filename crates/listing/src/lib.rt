@@ -1,10 +1,11 @@
-//! Programs as people read them: with names, and sums written out.
+//! Programs as people read them: steps with names and sums written out, and what is wrong with a text that holds none.
 
 pub mod messages;
-pub mod names;
-pub mod numbers;
-pub mod points;
+mod names;
+mod numbers;
+mod points;
+mod quotes;
 pub mod refusal;
 pub mod report;
-pub mod steps;
-pub mod sums;
+mod steps;
+mod sums;

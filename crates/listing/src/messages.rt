@@ -3,10 +3,11 @@ ghost use mathlib.Core.List.{_++_};
 ghost use mathlib.Core.Path.{_≡_};
 ghost use Prim.Native.Nat.{min};
 ghost use lib.ListN.{length, getD};
-ghost use Rattle.listing.specs.Messages.{with-place, with-quoted, with-what, with-flaw, number-at, fault-text, with-fault, with-wrong, with-misfit, with-cause, with-refusal};
+ghost use Rattle.listing.specs.Messages.{with-place, with-what, with-flaw, number-at, fault-text, with-fault, with-wrong, with-misfit, with-cause, with-refusal};
 ghost use Rattle.std.specs.Of.Vec.{vec-items};
 ghost use Rattle.std.specs.Vec.{made};
 use crate::numbers::push_number;
+use crate::quotes::push_quoted;
 use crate::refusal::Refusal;
 use programs::step::Fault;
 use programs::step::Wrong;
@@ -28,15 +29,6 @@ fn push_place(heap: Global, out: &mut Vec<u8>, text: &[u8], at: usize) -> Result
     out.extend_from_slice(b", column ")?;
     push_number(heap, out, place.column)?;
     out.extend_from_slice(b": ")
-}
-
-// A part of the text in quotes.
-fn push_quoted(out: &mut Vec<u8>, part: &[u8]) -> Result<(), AllocError>
-    ensures { λ r. ⌜ made r (λ _. vec-items (now (out .exit)) ≡ with-quoted (now (part .entry)) (vec-items (now (out .entry)))) ⌝ }
-{
-    out.extend_from_slice(b"'")?;
-    out.extend_from_slice(part)?;
-    out.extend_from_slice(b"'")
 }
 
 // What is wrong with the token of a number.
@@ -133,11 +125,12 @@ fn push_misfit(
 ) -> Result<(), AllocError>
     ensures { λ r. ⌜ made r (λ _. vec-items (now (out .exit)) ≡ with-misfit (now (key .entry)) names count (vec-items (now (out .entry)))) ⌝ }
 {
-    push_number(heap, out, names)?;
-    out.extend_from_slice(b" names, but ")?;
-    push_number(heap, out, count as usize)?;
-    out.extend_from_slice(b" ")?;
+    out.extend_from_slice(b"the line '# ")?;
     out.extend_from_slice(key)?;
+    out.extend_from_slice(b"' has ")?;
+    push_number(heap, out, names)?;
+    out.extend_from_slice(b" names, not ")?;
+    push_number(heap, out, count as usize)?;
     Ok(())
 }
 

@@ -5,7 +5,7 @@ use Prim.Native.Nat.{ℕ, zero, suc, _+_, _*_, _%_, _^_}
 use native.Mathlib.Omega.{arith}
 use native.Mathlib.Nat.{suc-inj}
 use lib.ListN.{length}
-use Rattle.algebra.proofs.Mod.{mods, push, pull, red, by-zero}
+use Rattle.algebra.proofs.Modular.{mods, push, pull, red, by-zero}
 use Rattle.algebra.proofs.Vec.{length-times}
 use Rattle.algebra.proofs.Sums.{plus-dot, times-dot}
 use Rattle.algebra.specs.Vec.{times, dot}

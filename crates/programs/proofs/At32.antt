@@ -1,18 +1,18 @@
 -- the definitions with no parameter are the general ones at 32 bits with nothing given, so the theorems hold of them
 use mathlib.Core.Path.{_≡_, refl, sym, ap, ap₂, _∙_, subst}
 use mathlib.Core.List.{List, [], _∷_}
-use Prim.Native.Nat.{ℕ, suc, _+_, _*_, _%_, _<_, _≤_}
+use Prim.Native.Nat.{ℕ, suc, _+_, _*_, _%_, _≤_}
 use native.Mathlib.Omega.{arith}
 use lib.ListN.{length}
 use Rattle.algebra.proofs.Vec.{cons-≡}
 use Rattle.algebra.proofs.Best.{best-same}
-use Rattle.algebra.proofs.Double.{sum-killed}
+use Rattle.algebra.proofs.Annihilators.{sum-killed}
 use Rattle.algebra.specs.Vec as vec
 use Rattle.algebra.specs.Rows.{Best}
 use Rattle.algebra.specs.Tell.{tell}
-use Rattle.programs.specs.Programs.{Action, set, any, skip, Step, Program, Reads}
+use Rattle.programs.specs.Programs.{Action, set, Program}
 use Rattle.programs.specs.Runs as runs
-use Rattle.programs.specs.Runs.{State, put, At}
+use Rattle.programs.specs.Runs.{State, put}
 use Rattle.programs.specs.Kept as kept
 use Rattle.programs.specs.Kept.{ones}
 use Rattle.programs.specs.Plain.{modulus, base, dot, Makes, makes-set, makes-any, makes-skip, Comes, begins, goes, Law, plus, times, sum, mix, AllCome, none-come, one-more, Plain}

@@ -5,12 +5,12 @@ use Prim.Native.Nat.{ℕ, suc, _*_, _<_, _≤_}
 use native.Mathlib.Omega.{arith}
 use lib.ListN.{length}
 use Rattle.algebra.proofs.Span.{all-spanned}
-use Rattle.algebra.proofs.Howells.{in-least, inside-mono, inside-self}
-use Rattle.algebra.proofs.Grow.{inside-full, fits-full}
-use Rattle.algebra.proofs.Snoc.{fit-flip, fits-flips, flip-flip}
-use Rattle.algebra.proofs.Gen.{gen-least}
-use Rattle.algebra.proofs.Double.{each-row, each-flips, each-to, sized-each, span-sub, span-rows, span-fit, best-howell}
-use Rattle.algebra.proofs.Grows.{Few, few-enough}
+use Rattle.algebra.proofs.FormSpans.{in-least, inside-mono, inside-self}
+use Rattle.algebra.proofs.Insertions.{inside-full, fits-full}
+use Rattle.algebra.proofs.LastPlace.{fit-flip, fits-flips, flip-flip}
+use Rattle.algebra.proofs.Generated.{gen-least}
+use Rattle.algebra.proofs.Annihilators.{each-row, each-flips, each-to, sized-each, span-sub, span-rows, span-fit, best-howell}
+use Rattle.algebra.proofs.Growth.{Few, few-enough}
 use Rattle.algebra.proofs.Maps.{span-flips, flips-flips, span-trans, span-closed, best-self, length-howell}
 use Rattle.algebra.specs.Vec.{flip, flips}
 use Rattle.algebra.specs.Rows.{Best}

@@ -5,12 +5,12 @@ use mathlib.Core.List.{List, [], _∷_}
 use Prim.Native.Nat.{ℕ, zero, suc, _<_}
 use lib.ListN.{replicate}
 use Rattle.algebra.proofs.Fit.{Submodule}
-use Rattle.algebra.proofs.Howells.{in-least, inside-mono, inside-self, fine-nothing, howell-nothing}
-use Rattle.algebra.proofs.Grow.{inside-none, inside-full}
-use Rattle.algebra.proofs.Snoc.{fit-flip, flip-flip}
+use Rattle.algebra.proofs.FormSpans.{in-least, inside-mono, inside-self, fine-nothing, howell-nothing}
+use Rattle.algebra.proofs.Insertions.{inside-none, inside-full}
+use Rattle.algebra.proofs.LastPlace.{fit-flip, flip-flip}
 use Rattle.algebra.proofs.Best.{best-same}
 use Rattle.algebra.proofs.Tell.{Killed, killed-sub, best-tell}
-use Rattle.algebra.proofs.Gen.{gen-least, linear-flipped}
+use Rattle.algebra.proofs.Generated.{gen-least, linear-flipped}
 use Rattle.algebra.proofs.Closure.{Good, Closure, closure}
 use Rattle.algebra.specs.Vec.{dot, flip}
 use Rattle.algebra.specs.Span.{Fit}

@@ -22,5 +22,6 @@ pub mod Few
 pub mod Width
 -- what is promised
 pub mod At32
+pub mod Invariants
 pub mod Worked
 pub mod Proved

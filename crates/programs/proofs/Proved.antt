@@ -1,5 +1,5 @@
 -- the theorems that the crate promises, each from the file of its topic
-use Rattle.algebra.proofs.Grows.{grows-so-often}
+use Rattle.algebra.proofs.Growth.{grows-so-often}
 use Rattle.programs.specs.Theorems.{Theorems}
 use Rattle.programs.proofs.One.{one-program}
 use Rattle.programs.proofs.States.{sums-are-laws}

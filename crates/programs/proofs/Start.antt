@@ -7,18 +7,18 @@ use Prim.Native.Nat.{ℕ, zero, suc, _+_, _*_, _%_, _^_, _<_}
 use native.Mathlib.Omega.{arith}
 use native.Mathlib.Decide.{ℕ-discrete}
 use native.Mathlib.Nat.{mod-eq-of-lt}
-use Rattle.algebra.proofs.Mod.{push, pull, out, by-both}
+use Rattle.algebra.proofs.Modular.{push, pull, out, by-both}
 use Rattle.algebra.proofs.Vec.{cons-≡, dot-comm}
 use Rattle.algebra.proofs.Rows.{none≢some}
 use Rattle.algebra.proofs.Only.{no-row}
 use Rattle.algebra.proofs.Span.{all-spanned, back}
 use Rattle.algebra.proofs.Fit.{fit-tail}
-use Rattle.algebra.proofs.Howells.{in-nothing, fine-nothing, howell-nothing}
-use Rattle.algebra.proofs.Grow.{made-fine, made-howell}
-use Rattle.algebra.proofs.Snoc.{fit-flip, fits-flips, flip-flip, flip-sums}
-use Rattle.algebra.proofs.Double.{each-row, each-to, best-annihilator, ann-closed, ann-sub}
+use Rattle.algebra.proofs.FormSpans.{in-nothing, fine-nothing, howell-nothing}
+use Rattle.algebra.proofs.Insertions.{made-fine, made-howell}
+use Rattle.algebra.proofs.LastPlace.{fit-flip, fits-flips, flip-flip, flip-sums}
+use Rattle.algebra.proofs.Annihilators.{each-row, each-to, best-annihilator, ann-closed, ann-sub}
 use Rattle.algebra.proofs.Maps.{span-flips, flips-flips, span-least, made-spans}
-use Rattle.algebra.proofs.Gen.{gen-one, gen-add}
+use Rattle.algebra.proofs.Generated.{gen-one, gen-add}
 use Rattle.algebra.specs.Vec.{neg, plus, times, dot, flip, flips}
 use Rattle.algebra.specs.Rows.{nth, Lead, Row, here, there, Best}
 use Rattle.algebra.specs.Span.{Fit, Span, Each, Ann}

@@ -6,12 +6,12 @@ use native.Mathlib.Omega.{arith}
 use lib.ListN.{length}
 use lib.Pow.{pow-lt}
 use lib.Dec.{T}
-use Rattle.algebra.proofs.Mod.{mods, by-zero}
+use Rattle.algebra.proofs.Modular.{mods, by-zero}
 use Rattle.algebra.proofs.Vec.{below-head, below-tail, below-cons, length-times}
 use Rattle.algebra.proofs.Sums.{plus-dot, times-dot}
 use Rattle.algebra.proofs.Fit.{fit-cons, fit-plus}
-use Rattle.algebra.proofs.Snoc.{fit-flip}
-use Rattle.algebra.proofs.Grow.{dot-small}
+use Rattle.algebra.proofs.LastPlace.{fit-flip}
+use Rattle.algebra.proofs.Insertions.{dot-small}
 use Rattle.algebra.specs.Vec.{below, times, dot}
 use Rattle.algebra.specs.Span.{Fit, Closed, Each}
 use Rattle.programs.specs.Programs.{Action, Step, Program}

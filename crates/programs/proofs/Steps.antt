@@ -6,12 +6,12 @@ use native.Mathlib.Omega.{arith}
 use native.Mathlib.Nat.{mod-eq-of-lt}
 use lib.ListN.{replicate}
 use lib.Pow.{pow-pos}
-use Rattle.algebra.proofs.Mod.{push, pull, out, by-small}
+use Rattle.algebra.proofs.Modular.{push, pull, out, by-small}
 use Rattle.algebra.proofs.Vec.{cons-≡}
 use Rattle.algebra.proofs.Sums.{dot-zero}
 use Rattle.algebra.proofs.Span.{back}
 use Rattle.algebra.proofs.Fit.{Submodule, fit-plus}
-use Rattle.algebra.proofs.Grow.{dot-less, dot-small}
+use Rattle.algebra.proofs.Insertions.{dot-less, dot-small}
 use Rattle.algebra.proofs.Tell.{zero-dot}
 use Rattle.algebra.specs.Vec.{neg, plus, times, dot}
 use Rattle.algebra.specs.Span.{Fit}

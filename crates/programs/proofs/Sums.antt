@@ -6,7 +6,7 @@ use Rattle.algebra.proofs.Sums.{Sized, no-rows, row-on}
 use Rattle.algebra.proofs.Span.{all-spanned}
 use Rattle.algebra.proofs.Only.{only}
 use Rattle.algebra.proofs.Best.{best-same}
-use Rattle.algebra.proofs.Double.{each-row, row-each, sized-each, span-killed, sum-killed}
+use Rattle.algebra.proofs.Annihilators.{each-row, row-each, sized-each, span-killed, sum-killed}
 use Rattle.algebra.specs.Vec.{dot}
 use Rattle.algebra.specs.Span.{Span, Each}
 use Rattle.programs.specs.Programs.{Program}

@@ -4,8 +4,8 @@ use mathlib.Core.List.{List, [], _∷_}
 use Prim.Native.Nat.{ℕ, suc, _<_}
 use lib.ListN.{replicate}
 use Rattle.algebra.proofs.Only.{no-row}
-use Rattle.algebra.proofs.Double.{sized-each, span-sub, span-rows}
-use Rattle.algebra.proofs.Grows.{each-append, each-split}
+use Rattle.algebra.proofs.Annihilators.{sized-each, span-sub, span-rows}
+use Rattle.algebra.proofs.Growth.{each-append, each-split}
 use Rattle.algebra.proofs.Maps.{span-through, span-trans}
 use Rattle.algebra.specs.Rows.{here, there}
 use Rattle.algebra.specs.Span.{Fit, Span, Each}

@@ -4,16 +4,16 @@ use mathlib.Core.List.{List, [], _∷_}
 use Prim.Native.Nat.{ℕ, suc, _<_}
 use Rattle.algebra.proofs.Fit.{Submodule, Inside}
 use Rattle.algebra.proofs.Insert.{fine-insert, inside-insert}
-use Rattle.algebra.proofs.Howells.{in-sub, in-least, in-new, howell-insert, fine-nothing, howell-nothing}
-use Rattle.algebra.proofs.Grow.{inside-none, inside-full, fits-full}
-use Rattle.algebra.proofs.Snoc.{fit-flip, flip-sums, flip-zero}
-use Rattle.algebra.proofs.Gen.{sub-map, gen-least, gen-one, gen-sub, flipped-is, linear-flipped}
+use Rattle.algebra.proofs.FormSpans.{in-sub, in-least, in-new, howell-insert, fine-nothing, howell-nothing}
+use Rattle.algebra.proofs.Insertions.{inside-none, inside-full, fits-full}
+use Rattle.algebra.proofs.LastPlace.{fit-flip, flip-sums, flip-zero}
+use Rattle.algebra.proofs.Generated.{sub-map, gen-least, gen-one, gen-sub, flipped-is, linear-flipped}
 use Rattle.algebra.specs.Vec.{flip}
 use Rattle.algebra.specs.Span.{Fit, Each}
 use Rattle.algebra.specs.Form.{Form, WellFormed, In, Howell, nothing, insert, full}
 use Rattle.algebra.specs.System.{flipped, Gen}
 use Rattle.programs.specs.Programs.{Step, Program}
-use Rattle.programs.specs.Runs.{State, At, Move, Run, begins, goes, Comes}
+use Rattle.programs.specs.Runs.{State, At, Move, Run, begins, goes}
 use Rattle.programs.specs.Kept.{Map, Reached, reached, Keeps, Stable}
 use Rattle.programs.proofs.States.{fit-run, comes-next, fit-one, fit-reached}
 use Rattle.programs.proofs.Steps.{linear, step-exact, step-sound}
@@ -48,7 +48,7 @@ module _ (w : ℕ) (pos : 0 < w) (gs : List (List ℕ)) (p : Program) where
   pub good-insert : (n : ℕ) (f : Form) (v : List ℕ) → Good n f → Fit w N v → R n v → Good n (insert w f v)
   good-insert n f v g fv r = record { fine = fine-insert w (g .fine) v fv; howell = howell-insert w (g .fine) (g .howell) v fv; within = inside-insert w (g .fine) (R n) v (R-sub n) fv .1 (g .within, r) }
 
-  -- the rows of a good form through a step are such as may be put in where it goes
+  -- the rows of a good form through a step are such as may be inserted where it goes
   pub good-rows : (t : Step) (i : ℕ) (m : List ℕ → List ℕ) (f : Form) → At t i (p .steps) → Map w (p .words) (t .action) m → Good (t .from) f → Each (λ (r : List ℕ). Fit w N (flipped m r) × R (t .to) (flipped m r)) (full w f)
   good-rows t i m f a h g = both (full w f) (fits-full w (g .fine)) (inside-full w (R (t .from)) f .0 (g .within))
     where

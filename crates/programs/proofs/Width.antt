@@ -8,10 +8,10 @@ use native.Mathlib.Nat.{mod-mod-of-dvd, dvd-mul-left, mod-eq-of-lt, zero-mod, mu
 use lib.ListN.{length}
 use lib.Pow.{pow-add, pow-mono}
 use lib.Dec.{T}
-use Rattle.algebra.proofs.Mod.{push, pull, red}
+use Rattle.algebra.proofs.Modular.{push, pull, red}
 use Rattle.algebra.proofs.Vec.{cons-≡, below-head, below-tail, below-cons, mod-small, length-times, below-times}
 use Rattle.algebra.proofs.Sums.{times-dot}
-use Rattle.algebra.proofs.Howells.{cancel}
+use Rattle.algebra.proofs.FormSpans.{cancel}
 use Rattle.algebra.specs.Vec.{below, times, dot}
 use Rattle.algebra.specs.Span.{Fit}
 use Rattle.programs.specs.Programs.{Action, set, any, Step, Program}

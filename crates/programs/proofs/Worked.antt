@@ -1,10 +1,10 @@
 -- the worked programs, by computing
-use mathlib.Core.Path.{_≡_, refl}
+use mathlib.Core.Path.{refl}
 use mathlib.Core.List.{[], _∷_}
-use Prim.Native.Nat.{ℕ}
 use native.Mathlib.Omega.{arith}
-use Rattle.programs.specs.Runs.{makes-set, makes-any, makes-skip, at-first, at-later, begins, goes, Comes}
+use Rattle.programs.specs.Runs.{makes-set, at-first, at-later, begins, goes, Comes}
 use Rattle.programs.specs.Cases.{counters, doubling, Cases}
+use Rattle.programs.proofs.Invariants.{three-two-law, even-law}
 
 round-0 : Comes 32 [] counters 1 (0 ∷ 0 ∷ [])
 round-0 = record { moves = _; run = goes (goes (begins {s = 7 ∷ 9 ∷ []} (record { sized = refl; small = tt }) tt) at-first makes-set) (at-later at-first) makes-set }
@@ -24,9 +24,12 @@ cases = record {
   round-2 = round-2;
   law-1 = refl;
   law-2 = refl;
+  law = three-two-law;
   six = six;
   even-6 = refl;
   odd-7 = λ e. omega arith;
+  even-law = even-law;
+  seven = λ c. (let e = even-law .holds (7 ∷ []) c in omega arith);
   rows = refl;
   states = refl;
   words = record { is = refl; fine = tt };

@@ -4,7 +4,7 @@ use mathlib.Core.List.{List, [], _∷_}
 use Prim.Native.Nat.{ℕ}
 use Rattle.algebra.specs.Vec.{dot, sum}
 use Rattle.programs.specs.Programs.{set, any, skip, Program, Reads}
-use Rattle.programs.specs.Runs.{State, Comes}
+use Rattle.programs.specs.Runs.{Comes, Law}
 use Rattle.programs.specs.Kept.{mix}
 use Rattle.programs.specs.Plain.{base}
 
@@ -33,10 +33,14 @@ pub record Cases : Type 0 where
   pub round-2 : Comes 32 [] counters 1 (4 ∷ 6 ∷ [])
   pub law-1 : dot 32 three-two (1 ∷ 2 ∷ 3 ∷ []) ≡ 0
   pub law-2 : dot 32 three-two (1 ∷ 4 ∷ 6 ∷ []) ≡ 0
-  -- 6 comes behind the doubling and is even; 7 is not, so it does not come
+  -- and at every state that comes there
+  pub law : Law 32 [] counters 1 three-two
+  -- 6 comes behind the doubling and is even; 7 is not. All that comes there is even, so 7 does not come
   pub six : Comes 32 [] doubling 1 (6 ∷ [])
   pub even-6 : dot 32 even (1 ∷ 6 ∷ []) ≡ 0
   pub odd-7 : dot 32 even (1 ∷ 7 ∷ []) ≡ 0 → ⊥
+  pub even-law : Law 32 [] doubling 1 even
+  pub seven : Comes 32 [] doubling 1 (7 ∷ []) → ⊥
   -- a sum of rows; and 2 times (2, 3) less once (0, 0) is (4, 6)
   pub rows : sum 32 3 (2 ∷ 1 ∷ []) ((1 ∷ 0 ∷ 5 ∷ []) ∷ (0 ∷ 4 ∷ 4294967290 ∷ []) ∷ []) ≡ 2 ∷ 4 ∷ 4 ∷ []
   pub states : mix 32 2 (2 ∷ 4294967295 ∷ []) ((2 ∷ 3 ∷ []) ∷ (0 ∷ 0 ∷ []) ∷ []) ≡ 1 ∷ 4 ∷ 6 ∷ []

@@ -2,9 +2,7 @@
 use mathlib.Core.Path.{_≡_}
 use mathlib.Core.List.{List, [], _∷_}
 use Prim.Native.Nat.{ℕ, zero, suc, _^_, _<_}
-use lib.ListN.{length}
-use lib.Dec.{T}
-use Rattle.algebra.specs.Vec.{below, dot}
+use Rattle.algebra.specs.Vec.{dot}
 use Rattle.algebra.specs.Span.{Fit, Each}
 use Rattle.programs.specs.Programs.{Action, set, any, skip, Step, Program}
 

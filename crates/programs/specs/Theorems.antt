@@ -79,7 +79,7 @@ abbrev pub Has-rows : ℕ → List (List ℕ) → Type 0
 Has-rows w gs = (p : Program) (n : ℕ) (f : Form) → Keeps w gs p n f → Best (Law w gs p n) (tell w f)
 
 -- words of w bits and of v, where w is at most v, with nothing given: a law of v bits, modulo 2 ^ w, is one of w bits; and
--- a row is a law of w bits just if it is, 2 ^ (v - w) times, one of v bits
+-- a row is a law of w bits exactly if it is, 2 ^ (v - w) times, one of v bits
 abbrev pub cut : ℕ → List ℕ → List ℕ
 cut w [] = []
 cut w (x ∷ xs) = (x % 2 ^ w) ∷ cut w xs

@@ -6,7 +6,7 @@ use std::io;
 use std::io::Read;
 use std::io::Write;
 
-// The largest text, and more numbers than such a text can hold: 1.5 MiB in all.
+// The largest text, and as many numbers as such a text can hold: 1.5 MiB together.
 const TEXT_BYTES: usize = 524_288;
 
 const NUMBERS: usize = 262_144;
@@ -19,7 +19,7 @@ fn refuse(rt: &LibcRuntime, message: &[u8]) -> io::Result<()> {
 
 fn main(rt: LibcRuntime) -> io::Result<()> {
     let heap = rt.alloc();
-    let mut text = Vec::new(heap);
+    let mut text = Vec::with_capacity(heap, TEXT_BYTES + 1)?;
     rt.stdin()
         .take(TEXT_BYTES as u64 + 1)
         .read_to_end(&mut text)?;

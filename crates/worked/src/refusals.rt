@@ -7,7 +7,7 @@ use std::test::*;
 #[test]
 fn messages(rt: LibcRuntime) -> Result<(), Fail> {
     let heap = rt.alloc();
-    let cases: [(&[u8], &[u8]); 12] = [
+    let cases: [(&[u8], &[u8]); 16] = [
         (b"1 1 0x", b"line 1, column 5: '0x' is no number\n"),
         (
             b"# words x\n1 1\n  -3",
@@ -52,6 +52,20 @@ fn messages(rt: LibcRuntime) -> Result<(), Fail> {
         (
             b"1 1 0\n7",
             b"line 2, column 1: no program: the program ends before the number 7\n",
+        ),
+        (
+            b"# words x y\n1 1 0",
+            b"the line '# words' has 2 names, not 1\n",
+        ),
+        (
+            b"1 1 0\n# points",
+            b"the line '# points' has 0 names, not 1\n",
+        ),
+        // what a terminal would take for a command is not shown, nor is more than 40 bytes
+        (b"\x1b[2J", b"line 1, column 1: '?[2J' is no number\n"),
+        (
+            b"nnnnnnnnnnnnnnnnnnnnnnnnnnnnnnnnnnnnnnnnnnnn",
+            b"line 1, column 1: 'nnnnnnnnnnnnnnnnnnnnnnnnnnnnnnnnnnnnnnnn' is no number\n",
         ),
     ];
     for (text, message) in cases {

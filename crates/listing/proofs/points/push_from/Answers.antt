@@ -1,6 +1,4 @@
-use mathlib.Core.Path.{_≡_}
 use Rattle.programs.specs.Reading.{step-of}
-use Rattle.listing.specs.Names.{lineOf}
 use Rattle.listing.proofs.Placed.{step-read, from-says}
 use Rattle.listing.proofs.points.push_from.Needs as need
 

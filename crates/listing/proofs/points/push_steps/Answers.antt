@@ -1,11 +1,7 @@
-use mathlib.Core.Path.{_≡_, sym, _∙_}
-use mathlib.Core.List.{List}
-use Prim.Native.Nat.{ℕ}
+use mathlib.Core.Path.{sym, _∙_}
 use native.Mathlib.Omega.{arith}
-use lib.ListN.{length}
 use Rattle.std.specs.Of.Vec.{vec-items}
-use Rattle.programs.specs.Programs.{Program, encode-steps}
-use Rattle.listing.specs.Laid.{Laid}
+use Rattle.programs.specs.Programs.{encode-steps}
 use Rattle.listing.specs.Names.{lineOf}
 use Rattle.listing.proofs.Placed.{next-step, steps-more, steps-same, steps-none, steps-end}
 use Rattle.listing.proofs.points.push_steps.Needs as need

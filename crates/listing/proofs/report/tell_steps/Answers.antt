@@ -1,4 +1,4 @@
-use mathlib.Core.Path.{_≡_, refl}
+use mathlib.Core.Path.{refl}
 use Rattle.listing.proofs.Texts.{fitting-is, misfit-is, laid-part, points-are}
 use Rattle.listing.proofs.report.tell_steps.Needs as need
 

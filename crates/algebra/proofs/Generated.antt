@@ -5,7 +5,7 @@ use Prim.Native.Nat.{ℕ, _*_}
 use Rattle.algebra.proofs.Vec.{times-one, times-plus, times-times, plus-zero, plus-assoc}
 use Rattle.algebra.proofs.Sums.{times-of-zero}
 use Rattle.algebra.proofs.Fit.{fit-plus, fit-times, fit-zero, zero-plus, Submodule}
-use Rattle.algebra.proofs.Snoc.{fit-flip, flip-flip, flip-zero, flip-sums}
+use Rattle.algebra.proofs.LastPlace.{fit-flip, flip-flip, flip-zero, flip-sums}
 use Rattle.algebra.specs.Vec.{plus, times, flip}
 use Rattle.algebra.specs.Span.{Fit}
 use Rattle.algebra.specs.System.{Linear, flipped, Gen, gen-none, gen-more}

@@ -1,4 +1,4 @@
--- many rows put into a form; the rows of a form
+-- many rows inserted into a form; the rows of a form
 use mathlib.Core.Path.{_≡_, refl, sym, ap, _∙_, subst}
 use mathlib.Core.Logic.{inl, inr, _↔_}
 use mathlib.Core.List.{List, [], _∷_}
@@ -9,7 +9,7 @@ use lib.ListN.{replicate}
 use Rattle.algebra.proofs.Vec.{length-times, dot-mod, dot-plus, dot-times, mod-small}
 use Rattle.algebra.proofs.Fit.{fit-less, fit-times, fit-zero, fit-tail, fit-cons, fit-head, fit-nought, Submodule, Tail, Inside}
 use Rattle.algebra.proofs.Insert.{inside-insert, fine-insert, Falls, falls-le, weight-insert}
-use Rattle.algebra.proofs.Howells.{in-sub, in-least, inside-mono, inside-self, howell-insert, fine-nothing, howell-nothing, inside-nothing}
+use Rattle.algebra.proofs.FormSpans.{in-sub, in-least, inside-mono, inside-self, howell-insert, fine-nothing, howell-nothing, inside-nothing}
 use Rattle.algebra.specs.Vec.{plus, times, less, dot}
 use Rattle.algebra.specs.Span.{Fit, Each}
 use Rattle.algebra.specs.Form.{Form, insert, grow, WellFormed, no-slots, slot-on, In, Howell, weight, nothing, everything, shift, full}
@@ -34,7 +34,7 @@ unfolding full
 fits-full w no-slots = tt
 fits-full w (slot-on {n} {e} {t} {f} le ft fine) = (fit-cons w (mod-small w (2 ^ e)) ft, each-shift (Fit w (suc n)) (full w f) .1 (each-map (Fit w n) (Tail (Fit w (suc n))) (λ c h. fit-nought w h) (full w f) (fits-full w fine)))
 
--- many rows put in
+-- many rows inserted
 pub fine-grow : (w : ℕ) {n : ℕ} (f : Form) (vs : List (List ℕ)) → WellFormed w n f → Each (Fit w n) vs → WellFormed w n (grow w f vs)
 unfolding grow
 fine-grow w f [] fine a = fine
@@ -98,7 +98,7 @@ falls-grow w f (v ∷ vs) = join (weight-insert w f v) (falls-grow w (insert w f
     join {g} {h} (inl a) (inr b) = let z : weight g ≡ weight f = ap weight a in inr (omega arith)
     join {g} {h} (inr a) b = let z = falls-le g h b in inr (omega arith)
 
--- what the rows put in span, with the old span
+-- what the rows inserted span, with the old span
 pub in-grow : (w : ℕ) {n : ℕ} (f : Form) (vs : List (List ℕ)) → WellFormed w n f → Each (Fit w n) vs → (u : List ℕ) → Fit w n u → In w f u → In w (grow w f vs) u
 in-grow w f vs fine a u fu i = in-least w fine (In w (grow w f vs)) (in-sub w (fine-grow w f vs fine a)) (inside-grow w (In w (grow w f vs)) (in-sub w (fine-grow w f vs fine a)) f vs fine a .0 (inside-self w (fine-grow w f vs fine a)) .0) u fu i
 

@@ -7,14 +7,14 @@ use native.Mathlib.Omega.{arith}
 use native.Mathlib.Nat.{mod-eq-of-lt, mul-one, mul-comm, zero-add}
 use lib.ListN.{length, replicate, length-replicate}
 use lib.Dec.{T}
-use Rattle.algebra.proofs.Mod.{mods, push, pull, red, by-zero, by-both}
+use Rattle.algebra.proofs.Modular.{mods, push, pull, red, by-zero, by-both}
 use Rattle.algebra.proofs.Vec.{dot-comm, dot-plus, dot-times, length-times}
 use Rattle.algebra.proofs.Sums.{Sized, no-rows, row-on, length-sum, below-sum, dot-zero}
 use Rattle.algebra.proofs.Span.{span-zero, span-add, span-row, all-spanned}
 use Rattle.algebra.proofs.Fit.{fit-less, fit-tail, fit-head, fit-plus, fit-zero, Submodule}
-use Rattle.algebra.proofs.Howells.{cancel}
-use Rattle.algebra.proofs.Grow.{dot-less, made-fine, made-howell, made-has, made-least}
-use Rattle.algebra.proofs.Snoc.{dot-snoc, fit-flip, fits-flips, flip-flip, flip-sums, flip-zero}
+use Rattle.algebra.proofs.FormSpans.{cancel}
+use Rattle.algebra.proofs.Insertions.{dot-less, made-fine, made-howell, made-has, made-least}
+use Rattle.algebra.proofs.LastPlace.{dot-snoc, fit-flip, fits-flips, flip-flip, flip-sums, flip-zero}
 use Rattle.algebra.proofs.Best.{best-same}
 use Rattle.algebra.proofs.Tell.{zero-dot, Killed, killed-sub, ann-end, ann-extra, extra-is, best-tell}
 use Rattle.algebra.specs.Vec.{neg, below, plus, times, less, dot, sum, snoc, flip, flips}

@@ -8,10 +8,10 @@ use lib.ListN.{length, replicate}
 use Rattle.algebra.proofs.Vec.{times-zero}
 use Rattle.algebra.proofs.Fit.{zero-plus, Inside}
 use Rattle.algebra.proofs.Insert.{Falls, weight-insert, fine-insert, inside-insert}
-use Rattle.algebra.proofs.Howells.{in-sub, in-least, in-new, inside-mono, inside-self, fine-nothing}
-use Rattle.algebra.proofs.Grow.{each-map, inside-full, fits-full, inside-none, weight-nothing, made-fine, made-has, made-least}
-use Rattle.algebra.proofs.Gen.{gen-fit}
-use Rattle.algebra.proofs.Double.{sized-each, span-sub, span-rows}
+use Rattle.algebra.proofs.FormSpans.{in-sub, in-least, in-new, inside-mono, inside-self, fine-nothing}
+use Rattle.algebra.proofs.Insertions.{each-map, inside-full, fits-full, inside-none, weight-nothing, made-fine, made-has, made-least}
+use Rattle.algebra.proofs.Generated.{gen-fit}
+use Rattle.algebra.proofs.Annihilators.{sized-each, span-sub, span-rows}
 use Rattle.algebra.specs.Vec.{plus, times}
 use Rattle.algebra.specs.Span.{Fit, Span, Each, Fresh, fresh-none, fresh-more}
 use Rattle.algebra.specs.Form.{Form, insert, grow, WellFormed, In, weight, nothing, full}
@@ -22,34 +22,34 @@ pub span-later : (w n : ℕ) (r : List ℕ) (rs : List (List ℕ)) (c : List ℕ
 span-later w n r rs c e fc s = record { weights = 0 ∷ s .weights; many = ap suc (s .many); gives = ap₂ (plus w) (times-zero w r ∙ ap (λ (k : ℕ). replicate k 0) e) (s .gives) ∙ zero-plus w n c fc }
 
 module _ (w n : ℕ) where
-  -- the form of rows, the oldest put in first
-  form-of : List (List ℕ) → Form
-  form-of [] = nothing w n
-  form-of (v ∷ vs) = insert w (form-of vs) v
+  -- the form of rows, the oldest inserted first
+  form-of-fresh : List (List ℕ) → Form
+  form-of-fresh [] = nothing w n
+  form-of-fresh (v ∷ vs) = insert w (form-of-fresh vs) v
 
   fresh-fits : {vs : List (List ℕ)} → Fresh w n vs → Each (Fit w n) vs
   fresh-fits fresh-none = tt
   fresh-fits (fresh-more f a b) = (a, fresh-fits f)
 
-  form-fine : (vs : List (List ℕ)) → Each (Fit w n) vs → WellFormed w n (form-of vs)
-  unfolding form-of
+  form-fine : (vs : List (List ℕ)) → Each (Fit w n) vs → WellFormed w n (form-of-fresh vs)
+  unfolding form-of-fresh
   form-fine [] e = fine-nothing w n
   form-fine (v ∷ vs) e = fine-insert w (form-fine vs (e .1)) v (e .0)
 
-  form-span : (vs : List (List ℕ)) → Each (Fit w n) vs → Inside w (Span w n vs) (form-of vs)
-  unfolding form-of
+  form-span : (vs : List (List ℕ)) → Each (Fit w n) vs → Inside w (Span w n vs) (form-of-fresh vs)
+  unfolding form-of-fresh
   form-span [] e = inside-none w (Span w n []) (span-sub w n [] (sized-each w n [] e))
   form-span (v ∷ vs) e = inside-insert w (form-fine vs (e .1)) (Span w n (v ∷ vs)) v (span-sub w n (v ∷ vs) (sized-each w n (v ∷ vs) e)) (e .0) .1 (inside-mono w (form-fine vs (e .1)) (Span w n vs) (Span w n (v ∷ vs)) (λ c fc s. span-later w n v vs c (e .0 .sized) fc s) (form-span vs (e .1)), span-rows w n (v ∷ vs) e .0)
 
-  grows : {vs : List (List ℕ)} → Fresh w n vs → length vs + weight (form-of vs) ≤ w * n
-  unfolding form-of
+  grows : {vs : List (List ℕ)} → Fresh w n vs → length vs + weight (form-of-fresh vs) ≤ w * n
+  unfolding form-of-fresh
   grows fresh-none = omega (arith, weight-nothing w n)
-  grows (fresh-more {v} {vs} f a b) = one (weight-insert w (form-of vs) v) (grows f)
+  grows (fresh-more {v} {vs} f a b) = one (weight-insert w (form-of-fresh vs) v) (grows f)
     where
       e : Each (Fit w n) vs
       e = fresh-fits f
 
-      one : Falls (form-of vs) (insert w (form-of vs) v) → length vs + weight (form-of vs) ≤ w * n → suc (length vs) + weight (insert w (form-of vs) v) ≤ w * n
+      one : Falls (form-of-fresh vs) (insert w (form-of-fresh vs) v) → length vs + weight (form-of-fresh vs) ≤ w * n → suc (length vs) + weight (insert w (form-of-fresh vs) v) ≤ w * n
       one (inl s) h = absurd (b (in-least w (form-fine vs e) (Span w n vs) (span-sub w n vs (sized-each w n vs e)) (form-span vs e) v a (subst (λ (g : Form). In w g v) s (in-new w (form-fine vs e) v a))))
       one (inr l) h = omega arith
 

@@ -9,7 +9,7 @@ use native.Mathlib.Nat.{mul-zero, mul-assoc, suc-inj, div-add-mod, mod-self, eq-
 use lib.ListN.{length, replicate}
 use lib.Pow.{pow-add, pow-pos}
 use lib.Count.{trailingZeros}
-use Rattle.algebra.proofs.Mod.{push, pull, red, out, by-both, by-zero}
+use Rattle.algebra.proofs.Modular.{push, pull, red, out, by-both, by-zero}
 use Rattle.algebra.proofs.Vec.{cons-≡, times-times, times-zero, times-one, plus-zero, mod-small}
 use Rattle.algebra.proofs.Sums.{times-of-zero, zero-plus-zero}
 use Rattle.algebra.proofs.Span.{back}
@@ -20,7 +20,7 @@ use Rattle.algebra.specs.Span.{Fit}
 use Rattle.algebra.specs.Inverse.{inverse}
 use Rattle.algebra.specs.Form.{slot, Form, insert, WellFormed, no-slots, slot-on, In, Howell, nothing}
 
--- taking multiples away is linear; no length is asked for, since both sides end with the shortest
+-- subtracting multiples is linear; no length is asked for, since both sides end with the shortest
 pub less-plus : (w a b l : ℕ) (u v t : List ℕ) → plus w (less w u a t) (times w l (less w v b t)) ≡ less w (plus w u (times w l v)) (a + l * b) t
 less-plus w a b l [] v t = refl
 less-plus w a b l (x ∷ u) [] [] = refl
@@ -76,7 +76,7 @@ in-least w (slot-on {n} {e} {t} {f} le ft fine) S sub a (x ∷ u) fu (k, is, i) 
     head : (0 + (k * (2 ^ e % 2 ^ w)) % 2 ^ w) % 2 ^ w ≡ x
     head = rw is (simp push (simp pull (ap (red (2 ^ w)) (omega arith))))
 
--- a row put in: the old span is in the new, and so is the row, and no more than both
+-- a row inserted: the old span is in the new, and so is the row, and no more than both
 module _ (w : ℕ) {n : ℕ} {f : Form} (fine : WellFormed w n f) (v : List ℕ) (fv : Fit w n v) where
   grown : Inside w (In w (insert w f v)) f × In w (insert w f v) v
   grown = inside-insert w fine (In w (insert w f v)) v (in-sub w (fine-insert w fine v fv)) fv .0 (inside-self w (fine-insert w fine v fv))

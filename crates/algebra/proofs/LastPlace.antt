@@ -8,7 +8,7 @@ use native.Mathlib.Omega.{arith}
 use native.Mathlib.Nat.{suc-inj}
 use lib.ListN.{length, replicate, take}
 use lib.Dec.{T}
-use Rattle.algebra.proofs.Mod.{push, pull, red}
+use Rattle.algebra.proofs.Modular.{push, pull, red}
 use Rattle.algebra.proofs.Vec.{cons-≡, below-head, below-tail, below-cons, length-times}
 use Rattle.algebra.proofs.Rows.{none≢some}
 use Rattle.algebra.specs.Vec.{below, plus, times, dot, snoc, flip, flips}
