@@ -11,27 +11,41 @@ const TEXT_BYTES: usize = 524_288;
 
 const NUMBERS: usize = 262_144;
 
-// Says why on standard error. The error makes the status 1.
-fn refuse(rt: &LibcRuntime, message: &[u8]) -> io::Result<()> {
+// Says why nothing is told.
+fn refuse(rt: &LibcRuntime, message: &[u8]) -> io::Result<bool> {
     rt.stderr().write_all(message)?;
-    Err(io::Error::from(io::ErrorKind::InvalidData))
+    Ok(false)
 }
 
-fn main(rt: LibcRuntime) -> io::Result<()> {
+// Whether a program was told; if not, why not was said.
+fn run(rt: &LibcRuntime) -> io::Result<bool> {
     let heap = rt.alloc();
     let mut text = Vec::with_capacity(heap, TEXT_BYTES + 1)?;
     rt.stdin()
         .take(TEXT_BYTES as u64 + 1)
         .read_to_end(&mut text)?;
     if text.len() > TEXT_BYTES {
-        return refuse(&rt, b"the text has more than 524288 bytes\n");
+        return refuse(rt, b"the text has more than 524288 bytes\n");
     }
     let mut words = vec![in heap; 0u32; NUMBERS]?;
     let mut out = Vec::new(heap);
     if let Err(refusal) = tell_steps(heap, &text, &mut words, &mut out) {
         let mut message = Vec::new(heap);
         push_refusal(heap, &mut message, &text, &mut words, refusal)?;
-        return refuse(&rt, &message);
+        return refuse(rt, &message);
     }
-    rt.stdout().write_all(&out)
+    rt.stdout().write_all(&out)?;
+    Ok(true)
+}
+
+// An error that `main` returns makes the status 1, and prints nothing.
+fn main(rt: LibcRuntime) -> io::Result<()> {
+    match run(&rt) {
+        Ok(true) => Ok(()),
+        Ok(false) => Err(io::Error::from(io::ErrorKind::InvalidData)),
+        Err(error) => {
+            eprintln!(rt, "{error}")?;
+            Err(error)
+        }
+    }
 }
