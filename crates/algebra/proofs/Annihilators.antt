@@ -108,10 +108,16 @@ module _ (w n : ℕ) (rs : List (List ℕ)) (fits : Each (Fit w n) rs) where
   sized = sized-each w n rs fits
 
   ann-to : (c : List ℕ) → Annihilates w n F c → Ann w n rs c
-  ann-to c a = record { fits = a .fits; kills = each-row (λ (r : List ℕ). dot w c r ≡ 0) rs (λ r i h. ap (dot w c) (sym (flip-flip r)) ∙ a .kills (flip r) (fit-flip w (row-each (Fit w n) rs fits h)) (row-each (λ (q : List ℕ). In w F (flip q)) rs (each-flips (In w F) rs .0 (made-has w n (flips rs) flip-fits)) h)) }
+  ann-to c a = record {
+    fits = a .fits;
+    kills = each-row (λ (r : List ℕ). dot w c r ≡ 0) rs (λ r i h. ap (dot w c) (sym (flip-flip r)) ∙ a .kills (flip r) (fit-flip w (row-each (Fit w n) rs fits h)) (row-each (λ (q : List ℕ). In w F (flip q)) rs (each-flips (In w F) rs .0 (made-has w n (flips rs) flip-fits)) h));
+  }
 
   ann-from : (c : List ℕ) → Ann w n rs c → Annihilates w n F c
-  ann-from c a = record { fits = a .fits; kills = made-least w n (flips rs) flip-fits (Killed w c) (killed-sub w n c) (each-flips (Killed w c) rs .1 (each-to (λ (r : List ℕ). dot w c r ≡ 0) (λ (r : List ℕ). Killed w c (flip r)) (λ r e. ap (dot w c) (flip-flip r) ∙ e) rs (a .kills))) }
+  ann-from c a = record {
+    fits = a .fits;
+    kills = made-least w n (flips rs) flip-fits (Killed w c) (killed-sub w n c) (each-flips (Killed w c) rs .1 (each-to (λ (r : List ℕ). dot w c r ≡ 0) (λ (r : List ℕ). Killed w c (flip r)) (λ r e. ap (dot w c) (flip-flip r) ∙ e) rs (a .kills)));
+  }
 
   -- the annihilator's best rows are computed
   pub best-annihilator : Best (Ann w n rs) (annihilator w n rs)
@@ -129,7 +135,11 @@ module _ (w n : ℕ) (rs : List (List ℕ)) (fits : Each (Fit w n) rs) where
       S-sub = record { zeros = subst (Span w n rs) (sym (flip-zero n)) (span-zero w sized); add = λ k c d p q x y. subst (Span w n rs) (sym (flip-sums w k c d p q)) (span-add w k x y) }
 
   pub ann-closed : Closed w n (Ann w n rs)
-  ann-closed = record { sums = λ k c d a b. record { fits = fit-plus w k (a .fits) (b .fits); kills = both rs k c d (a .fits) (b .fits) (a .kills) (b .kills) }; sized = λ c a. a .fits .sized; small = λ c a. a .fits .small }
+  ann-closed = record {
+    sums = λ k c d a b. record { fits = fit-plus w k (a .fits) (b .fits); kills = both rs k c d (a .fits) (b .fits) (a .kills) (b .kills) };
+    sized = λ c a. a .fits .sized;
+    small = λ c a. a .fits .small;
+  }
     where
       both : (qs : List (List ℕ)) (k : ℕ) (c d : List ℕ) → Fit w n c → Fit w n d → Each (λ (r : List ℕ). dot w c r ≡ 0) qs → Each (λ (r : List ℕ). dot w d r ≡ 0) qs → Each (λ (r : List ℕ). dot w (plus w c (times w k d)) r ≡ 0) qs
       both [] k c d p q a b = tt
@@ -156,4 +166,7 @@ best-howell w n rs fits = best-same to from (best-annihilator w n A A-fits)
     to v a = ann-ann w n rs fits v (a .fits) (λ c b. dot-comm w c v ∙ span-killed w n v A c (sized-each w n A A-fits) (a .kills) (all-spanned w n (Ann w n rs) (ann-closed w n rs fits) A best c b))
 
     from : (v : List ℕ) → Span w n rs v → Ann w n A v
-    from v s = record { fits = span-fit w n rs v (sized-each w n rs fits) s; kills = each-row (λ (r : List ℕ). dot w v r ≡ 0) A (λ r i h. dot-comm w v r ∙ span-killed w n r rs v (sized-each w n rs fits) (best .members r i h .kills) s) }
+    from v s = record {
+      fits = span-fit w n rs v (sized-each w n rs fits) s;
+      kills = each-row (λ (r : List ℕ). dot w v r ≡ 0) A (λ r i h. dot-comm w v r ∙ span-killed w n r rs v (sized-each w n rs fits) (best .members r i h .kills) s);
+    }

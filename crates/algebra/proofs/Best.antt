@@ -20,7 +20,13 @@ best-same f g a = record { members = λ r i h. f r (a .members r i h); leads = a
 
 -- a set without places
 pub best-none : (P : List ℕ → Type 0) → ((c : List ℕ) → P c → c ≡ []) → Best P []
-best-none P f = record { members = λ r i h. absurd (no-row h); leads = λ r i h. absurd (no-row h); ordered = λ r s i j p q v w h. absurd (no-row h); small = λ r s i j q w x h. absurd (no-row h); reaches = λ c p v x l. absurd (none≢some v (sym (ap (λ (z : List ℕ). nth z p) (f c x)) ∙ l .is)) }
+best-none P f = record {
+  members = λ r i h. absurd (no-row h);
+  leads = λ r i h. absurd (no-row h);
+  ordered = λ r s i j p q v w h. absurd (no-row h);
+  small = λ r s i j q w x h. absurd (no-row h);
+  reaches = λ c p v x l. absurd (none≢some v (sym (ap (λ (z : List ℕ). nth z p) (f c x)) ∙ l .is));
+}
 
 -- rows with one more place each
 pub row-bound : {r : List ℕ} {i : ℕ} {rs : List (List ℕ)} → Row r i rs → i < length rs

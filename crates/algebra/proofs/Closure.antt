@@ -73,7 +73,11 @@ module _ (w N : ℕ) (es : List Edge) (lin : (e : Edge) → On e es → Linear w
 
     pub next-good : Good (e .to) next
     unfolding next images
-    next-good = record { fine = fine-grow w (fs (e .to)) images (good (e .to) .fine) fits; howell = howell-grow w (fs (e .to)) images (good (e .to) .fine) (good (e .to) .howell) fits; within = inside-grow w (R (e .to)) (sub (e .to)) (fs (e .to)) images (good (e .to) .fine) fits .1 (good (e .to) .within, each-through (R (e .to)) (e .map) (full w (fs (e .from))) .1 (inside-full w (λ (r : List ℕ). R (e .to) (e .map r)) (fs (e .from)) .0 (inside-mono w (good (e .from) .fine) (R (e .from)) (λ (r : List ℕ). R (e .to) (e .map r)) (goes e on) (good (e .from) .within)))) }
+    next-good = record {
+      fine = fine-grow w (fs (e .to)) images (good (e .to) .fine) fits;
+      howell = howell-grow w (fs (e .to)) images (good (e .to) .fine) (good (e .to) .howell) fits;
+      within = inside-grow w (R (e .to)) (sub (e .to)) (fs (e .to)) images (good (e .to) .fine) fits .1 (good (e .to) .within, each-through (R (e .to)) (e .map) (full w (fs (e .from))) .1 (inside-full w (λ (r : List ℕ). R (e .to) (e .map r)) (fs (e .from)) .0 (inside-mono w (good (e .from) .fine) (R (e .from)) (λ (r : List ℕ). R (e .to) (e .map r)) (goes e on) (good (e .from) .within))));
+    }
 
     pub unchanged : next ≡ fs (e .to) → Closed-under fs e
     unfolding next images

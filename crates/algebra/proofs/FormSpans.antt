@@ -95,7 +95,10 @@ module _ (w : ℕ) {n : ℕ} {f : Form} (fine : WellFormed w n f) (v : List ℕ)
   With u = (k : ℕ) × In w f (less w u k v)
 
   with-sub : Submodule w n With
-  with-sub = record { zeros = (0, subst (In w f) (sym (less-zero w (replicate n 0) v n (fit-zero w n) fv)) (in-zero w fine)); add = λ k c d p q x y. (x .0 + k * y .0, subst (In w f) (less-plus w (x .0) (y .0) k c d v) (in-add w fine k (less w c (x .0) v) (less w d (y .0) v) (x .1) (y .1))) }
+  with-sub = record {
+    zeros = (0, subst (In w f) (sym (less-zero w (replicate n 0) v n (fit-zero w n) fv)) (in-zero w fine));
+    add = λ k c d p q x y. (x .0 + k * y .0, subst (In w f) (less-plus w (x .0) (y .0) k c d v) (in-add w fine k (less w c (x .0) v) (less w d (y .0) v) (x .1) (y .1)));
+  }
 
   pub span-insert : (u : List ℕ) → Fit w n u → In w (insert w f v) u ↔ With u
   span-insert u fu = (λ i. in-only With with-sub (inside-mono w fine (In w f) With (λ v′ fw i₁. (0, subst (In w f) (sym (less-zero w v′ v n fw fv)) i₁)) (inside-self w fine)) (1, subst (In w f) (sym nought) (in-zero w fine)) u fu i, λ v′. subst (In w (insert w f v)) (back w (v′ .0) u v (fu .sized ∙ sym (fv .sized)) (fu .small)) (in-add w (fine-insert w fine v fv) (v′ .0) (less w u (v′ .0) v) v (in-old (less w u (v′ .0) v) (fit-less w (v′ .0) fu fv) (v′ .1)) in-new))

@@ -39,7 +39,11 @@ gen-mono w n P Q fp fq f c g = gen-least w n P fp (Gen w n Q) (gen-sub w n Q fq)
 
 -- a linear map with the places in the other order
 pub linear-flipped : (w n : ℕ) (m : List ℕ → List ℕ) → Linear w n m → Linear w n (flipped m)
-linear-flipped w n m l = record { fit = λ u fu. fit-flip w (l .fit (flip u) (fit-flip w fu)); zeros = ap (λ (z : List ℕ). flip (m z)) (flip-zero n) ∙ ap flip (l .zeros) ∙ flip-zero n; sums = λ k u v p q. (ap (λ (z : List ℕ). flip (m z)) (flip-sums w k u v p q) ∙ ap flip (l .sums k (flip u) (flip v) (fit-flip w p) (fit-flip w q)) ∙ flip-sums w k (m (flip u)) (m (flip v)) (l .fit (flip u) (fit-flip w p)) (l .fit (flip v) (fit-flip w q))) }
+linear-flipped w n m l = record {
+  fit = λ u fu. fit-flip w (l .fit (flip u) (fit-flip w fu));
+  zeros = ap (λ (z : List ℕ). flip (m z)) (flip-zero n) ∙ ap flip (l .zeros) ∙ flip-zero n;
+  sums = λ k u v p q. (ap (λ (z : List ℕ). flip (m z)) (flip-sums w k u v p q) ∙ ap flip (l .sums k (flip u) (flip v) (fit-flip w p) (fit-flip w q)) ∙ flip-sums w k (m (flip u)) (m (flip v)) (l .fit (flip u) (fit-flip w p)) (l .fit (flip v) (fit-flip w q)));
+}
 
 pub flipped-is : (m : List ℕ → List ℕ) (u : List ℕ) → flipped m (flip u) ≡ flip (m u)
 flipped-is m u = ap (λ (z : List ℕ). flip (m z)) (flip-flip u)

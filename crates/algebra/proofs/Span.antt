@@ -27,7 +27,11 @@ pub span-zero : (w : ℕ) {n : ℕ} {rs : List (List ℕ)} → Sized n rs → Sp
 span-zero w {rs} z = record { weights = replicate (length rs) 0; many = length-replicate (length rs) 0; gives = sum-zero w z }
 
 pub span-add : (w : ℕ) {n : ℕ} {rs : List (List ℕ)} {c d : List ℕ} (k : ℕ) → Span w n rs c → Span w n rs d → Span w n rs (plus w c (times w k d))
-span-add w {n} {rs} {c} {d} k a b = record { weights = plus w (a .weights) (times w k (b .weights)); many = length-plus w (a .weights) (times w k (b .weights)) same ∙ a .many; gives = sum-plus w n (a .weights) (times w k (b .weights)) rs same ∙ ap₂ (plus w) (a .gives) (sum-times w n k (b .weights) rs ∙ ap (times w k) (b .gives)) }
+span-add w {n} {rs} {c} {d} k a b = record {
+  weights = plus w (a .weights) (times w k (b .weights));
+  many = length-plus w (a .weights) (times w k (b .weights)) same ∙ a .many;
+  gives = sum-plus w n (a .weights) (times w k (b .weights)) rs same ∙ ap₂ (plus w) (a .gives) (sum-times w n k (b .weights) rs ∙ ap (times w k) (b .gives));
+}
   where
     same : length (a .weights) ≡ length (times w k (b .weights))
     same = a .many ∙ sym (b .many) ∙ sym (length-times w k (b .weights))

@@ -29,7 +29,10 @@ abbrev pub Killed : ℕ → List ℕ → List ℕ → Type 0
 Killed w c v = dot w c (flip v) ≡ 0
 
 pub killed-sub : (w n : ℕ) (c : List ℕ) → Submodule w n (Killed w c)
-killed-sub w n c = record { zeros = ap (dot w c) (flip-zero n) ∙ dot-zero w n c; add = λ k u v p q x y. ap (dot w c) (flip-sums w k u v p q) ∙ dot-less w c k (flip u) (flip v) (fit-flip w p) (fit-flip w q) ∙ rw (x, y) (simp mods (by-zero w _ 0 (omega arith))) }
+killed-sub w n c = record {
+  zeros = ap (dot w c) (flip-zero n) ∙ dot-zero w n c;
+  add = λ k u v p q x y. ap (dot w c) (flip-sums w k u v p q) ∙ dot-less w c k (flip u) (flip v) (fit-flip w p) (fit-flip w q) ∙ rw (x, y) (simp mods (by-zero w _ 0 (omega arith)));
+}
 
 -- a remainder taken so many times
 pub scale : (d e x : ℕ) → x % 2 ^ d * 2 ^ e ≡ (x * 2 ^ e) % 2 ^ (d + e)
@@ -52,7 +55,10 @@ module _ (w : ℕ) {n e : ℕ} {t : List ℕ} {f : Form} (le : e ≤ w) (ft : Fi
 
   -- so a longer row annihilates the longer form exactly if the shorter does the shorter, and the new row comes to 0
   pub ann-up : (c : List ℕ) (y : ℕ) → y < 2 ^ w → Annihilates w n f c → (dot w c (flip t) + y * 2 ^ e) % 2 ^ w ≡ 0 → Annihilates w (suc n) (slot e t ∷ f) (snoc c y)
-  ann-up c y h a g = record { fits = fit-snoc w h (a .fits); kills = in-least w (slot-on le ft fine) (Killed w (snoc c y)) (killed-sub w (suc n) (snoc c y)) (first-dot c y (a .fits) ∙ g, inside-mono w fine (In w f) (Tail (Killed w (snoc c y))) (λ v fv i. later-dot c y v (a .fits) fv ∙ a .kills v fv i) (inside-self w fine)) }
+  ann-up c y h a g = record {
+    fits = fit-snoc w h (a .fits);
+    kills = in-least w (slot-on le ft fine) (Killed w (snoc c y)) (killed-sub w (suc n) (snoc c y)) (first-dot c y (a .fits) ∙ g, inside-mono w fine (In w f) (Tail (Killed w (snoc c y))) (λ v fv i. later-dot c y v (a .fits) fv ∙ a .kills v fv i) (inside-self w fine));
+  }
 
   pub ann-down : (c : List ℕ) (y : ℕ) → Annihilates w (suc n) (slot e t ∷ f) (snoc c y) → Annihilates w n f c
   ann-down c y a = let fc = fit-unsnoc w (a .fits) .0 in record { fits = fc; kills = λ v fv i. (sym (later-dot c y v fc fv) ∙ a .kills (0 ∷ v) (fit-nought w fv) (in-later w e fine ft v fv i)) }

@@ -112,7 +112,11 @@ module _ (w : ℕ) (pos : 0 < w) (gs : List (List ℕ)) (p : Program) (given : G
   H-rows = each-row (Span w N F) H (λ r i h. best .members r i h)
 
   kept : Kept w gs p n H
-  kept = record { wide = each-to (Span w N F) (Fit w N) (λ r. span-fit w N F r (sized-each w N F F-fits)) H H-rows; makes = λ u c. all-spanned w N (Span w N F) (span-closed w N F F-fits) H best (1 ∷ u) (subst (Span w N F) (flip-flip (1 ∷ u)) (in-F (flip (1 ∷ u)) (fit-flip w (fit-one w pos (fit-comes w c))) (k .enough u c))); made = each-to (Span w N F) (λ (r : List ℕ). (ss : List State) × AllCome w gs p n ss × Span w N (ones ss) r) (λ r s. (x .states, x .come, span-trans w N (ones (x .states)) F ss-fits F-states r s)) H H-rows }
+  kept = record {
+    wide = each-to (Span w N F) (Fit w N) (λ r. span-fit w N F r (sized-each w N F F-fits)) H H-rows;
+    makes = λ u c. all-spanned w N (Span w N F) (span-closed w N F F-fits) H best (1 ∷ u) (subst (Span w N F) (flip-flip (1 ∷ u)) (in-F (flip (1 ∷ u)) (fit-flip w (fit-one w pos (fit-comes w c))) (k .enough u c)));
+    made = each-to (Span w N F) (λ (r : List ℕ). (ss : List State) × AllCome w gs p n ss × Span w N (ones ss) r) (λ r s. (x .states, x .come, span-trans w N (ones (x .states)) F ss-fits F-states r s)) H H-rows;
+  }
 
   rows-kept : (rs : List (List ℕ)) × Kept w gs p n rs × Best (Span w N rs) rs × (length rs ≤ N)
   unfolding H

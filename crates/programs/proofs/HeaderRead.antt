@@ -79,4 +79,13 @@ module _ (z : Limits) where
 
     -- the header, with no step yet
     pub header : {n : ℕ} → Between ws 2 0 (z .max-steps) n → Before z ws k m n [] 3
-    header r = record { words = (p .low, p .high); points = (q .low, q .high); steps = r .high; many = omega arith; valid = tt; is = ap (take 3) (three ws (r .within)) ∙ cons-≡ (p .is) (cons-≡ (q .is) (cons-≡ (r .is) refl)); size = refl; within = omega (arith, r .within) }
+    header r = record {
+      words = (p .low, p .high);
+      points = (q .low, q .high);
+      steps = r .high;
+      many = omega arith;
+      valid = tt;
+      is = ap (take 3) (three ws (r .within)) ∙ cons-≡ (p .is) (cons-≡ (q .is) (cons-≡ (r .is) refl));
+      size = refl;
+      within = omega (arith, r .within);
+    }

@@ -124,7 +124,13 @@ module _ (w : ℕ) (pos : 0 < w) (gs : List (List ℕ)) (p : Program) (given : G
 
   pub stable : Stable w gs p forms
   unfolding forms starts
-  stable = record { well = λ n. done .good n .fine; howell = λ n. done .good n .howell; starts = λ s h g. done .larger 0 (flip (1 ∷ s)) (fit-flip w (fit-one w pos h)) (s0 .enough s h g); goes = λ t i m a h. inside-full w (λ (r : List ℕ). In w (done .forms (t .to)) (flipped m r)) (done .forms (t .from)) .0 (inside-mono w (done .good (t .from) .fine) (In w (done .forms (t .from))) (λ (r : List ℕ). In w (done .forms (t .to)) (flipped m r)) (λ v fv i. done .closed (edge (t .from) (t .to) m) (on-step w (p .words) a h) .holds v fv i) (inside-self w (done .good (t .from) .fine))); no-more = λ n u fu i. in-least w (done .good n .fine) (R₁ n) (sub n) (done .good n .within) u fu i }
+  stable = record {
+    well = λ n. done .good n .fine;
+    howell = λ n. done .good n .howell;
+    starts = λ s h g. done .larger 0 (flip (1 ∷ s)) (fit-flip w (fit-one w pos h)) (s0 .enough s h g);
+    goes = λ t i m a h. inside-full w (λ (r : List ℕ). In w (done .forms (t .to)) (flipped m r)) (done .forms (t .from)) .0 (inside-mono w (done .good (t .from) .fine) (In w (done .forms (t .from))) (λ (r : List ℕ). In w (done .forms (t .to)) (flipped m r)) (λ v fv i. done .closed (edge (t .from) (t .to) m) (on-step w (p .words) a h) .holds v fv i) (inside-self w (done .good (t .from) .fine)));
+    no-more = λ n u fu i. in-least w (done .good n .fine) (R₁ n) (sub n) (done .good n .within) u fu i;
+  }
 
 pub has-form : (w : ℕ) (gs : List (List ℕ)) → 0 < w → Has-form w gs
 has-form w gs pos p n given = (forms w pos gs p given n, stable-keeps w pos gs p (forms w pos gs p given) (stable w pos gs p given) n)

@@ -35,7 +35,11 @@ put-zero (suc n) zero = refl
 put-zero (suc n) (suc x) = cons-≡ refl (put-zero n x)
 
 pub linear-set : (w n x : ℕ) (cs : List ℕ) → Linear w n (set-map w x cs)
-linear-set w n x cs = record { fit = λ u fu. fit-put w u (suc x) (dot w cs u) (dot-small w cs u) fu; zeros = ap (put (replicate n 0) (suc x)) (dot-zero w n cs) ∙ put-zero n (suc x); sums = λ k u v p q. (ap (put (plus w u (times w k v)) (suc x)) (dot-less w cs k u v p q) ∙ put-plus w k (suc x) (dot w cs u) (dot w cs v) u v) }
+linear-set w n x cs = record {
+  fit = λ u fu. fit-put w u (suc x) (dot w cs u) (dot-small w cs u) fu;
+  zeros = ap (put (replicate n 0) (suc x)) (dot-zero w n cs) ∙ put-zero n (suc x);
+  sums = λ k u v p q. (ap (put (plus w u (times w k v)) (suc x)) (dot-less w cs k u v p q) ∙ put-plus w k (suc x) (dot w cs u) (dot w cs v) u v);
+}
 
 pub linear : (w k : ℕ) {d : Action} {m : List ℕ → List ℕ} → Map w k d m → Linear w (suc k) m
 linear w k (map-set {x} {cs}) = linear-set w (suc k) x cs

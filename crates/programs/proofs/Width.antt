@@ -103,7 +103,10 @@ module _ (w v : ℕ) (le : w ≤ v) (pos : 0 < w) where
 
   -- a law of v bits, cut, is one of w bits
   pub narrower : (p : Program) (n : ℕ) (c : List ℕ) → Law v [] p n c → Law w [] p n (cut w c)
-  narrower p n c l = record { fits = fit-cut (l .fits); holds = λ s h. (let f = lift (h .run) in cut-dot w c (1 ∷ s) ∙ ap (λ (z : List ℕ). dot w c (1 ∷ z)) (sym (f .cuts)) ∙ dot-one c (f .state) ∙ ap (λ (z : ℕ). z % 2 ^ w) (l .holds (f .state) (f .comes)) ∙ zero-mod (2 ^ w)) }
+  narrower p n c l = record {
+    fits = fit-cut (l .fits);
+    holds = λ s h. (let f = lift (h .run) in cut-dot w c (1 ∷ s) ∙ ap (λ (z : List ℕ). dot w c (1 ∷ z)) (sym (f .cuts)) ∙ dot-one c (f .state) ∙ ap (λ (z : ℕ). z % 2 ^ w) (l .holds (f .state) (f .comes)) ∙ zero-mod (2 ^ w));
+  }
 
   -- a law of w bits, so many times, is one of v bits, and just then
   raise : (d : ℕ) → d % 2 ^ w ≡ 0 → (2 ^ (v - w) * d) % 2 ^ v ≡ 0
@@ -122,7 +125,13 @@ module _ (w v : ℕ) (le : w ≤ v) (pos : 0 < w) where
   same-law p n c b = (up, down)
     where
       up : Law w [] p n c → Law v [] p n (times v (2 ^ (v - w)) c)
-      up l = record { fits = record { sized = length-times v (2 ^ (v - w)) c ∙ l .fits .sized; small = below-times v (2 ^ (v - w)) c }; holds = λ s h. times-dot v (2 ^ (v - w)) c (1 ∷ s) ∙ raise (dot v c (1 ∷ s)) (sym (dot-one c s) ∙ l .holds (cut w s) (run-down (h .run))) }
+      up l = record {
+        fits = record { sized = length-times v (2 ^ (v - w)) c ∙ l .fits .sized; small = below-times v (2 ^ (v - w)) c };
+        holds = λ s h. times-dot v (2 ^ (v - w)) c (1 ∷ s) ∙ raise (dot v c (1 ∷ s)) (sym (dot-one c s) ∙ l .holds (cut w s) (run-down (h .run)));
+      }
 
       down : Law v [] p n (times v (2 ^ (v - w)) c) → Law w [] p n c
-      down l = record { fits = record { sized = sym (length-times v (2 ^ (v - w)) c) ∙ l .fits .sized; small = b }; holds = λ s h. (let f = lift (h .run) in ap (λ (z : List ℕ). dot w c (1 ∷ z)) (sym (f .cuts)) ∙ dot-one c (f .state) ∙ fall (dot v c (1 ∷ f .state)) (sym (times-dot v (2 ^ (v - w)) c (1 ∷ f .state)) ∙ l .holds (f .state) (f .comes))) }
+      down l = record {
+        fits = record { sized = sym (length-times v (2 ^ (v - w)) c) ∙ l .fits .sized; small = b };
+        holds = λ s h. (let f = lift (h .run) in ap (λ (z : List ℕ). dot w c (1 ∷ z)) (sym (f .cuts)) ∙ dot-one c (f .state) ∙ fall (dot v c (1 ∷ f .state)) (sym (times-dot v (2 ^ (v - w)) c (1 ∷ f .state)) ∙ l .holds (f .state) (f .comes)));
+      }
