@@ -24,13 +24,18 @@ use Rattle.algebra.specs.Form.{slot, Form, WellFormed, no-slots, slot-on, In, 
 use Rattle.algebra.specs.Tell.{extra, Annihilates, annihilator, howell-rows}
 
 -- the place of a slot in what comes to 0: a multiple of the pivot
-place : (w : ℕ) {n : ℕ} (e : ℕ) {t : List ℕ} {f : Form} → e ≤ w → Fit w n t → WellFormed w n f → (x : ℕ) (u : List ℕ) → Fit w n u → ((c : List ℕ) → Annihilates w (suc n) (slot e t ∷ f) c → dot w c (flip (x ∷ u)) ≡ 0) → (l : ℕ) × (x ≡ l * 2 ^ e)
+place : (w : ℕ) {n : ℕ} (e : ℕ) {t : List ℕ} {f : Form} → e ≤ w → Fit w n t → WellFormed w n f → (x : ℕ) (u : List ℕ) → Fit w n u
+    → ((c : List ℕ) → Annihilates w (suc n) (slot e t ∷ f) c → dot w c (flip (x ∷ u)) ≡ 0) → (l : ℕ) × (x ≡ l * 2 ^ e)
 place w zero le ft fine x u fu h = (x, sym (mul-one x))
 place w {n} (suc e) le ft fine x u fu h = cancel w x (suc e) (w - suc e) (omega arith) (ap (λ (z : ℕ). z % 2 ^ w) (mul-comm x (2 ^ (w - suc e)) ∙ sym (zero-add (2 ^ (w - suc e) * x))) ∙ ap (λ (z : ℕ). (z + 2 ^ (w - suc e) * x) % 2 ^ w) (sym (zero-dot w n (flip u))) ∙ sym (dot-snoc w (2 ^ (w - suc e)) x (replicate n 0) (flip u) (length-replicate n 0 ∙ sym (fit-flip w fu .sized))) ∙ h (snoc (replicate n 0) (2 ^ (w - suc e))) (ann-end w le ft fine (omega arith)))
 
 -- a - l b is 0, where a + y x is, and b + y p, and x is l p
 eliminate : (w a b l y p x : ℕ) → x ≡ l * p → (a + y * x) % 2 ^ w ≡ 0 → (b + y * p) % 2 ^ w ≡ 0 → (a + (neg w * l * b) % 2 ^ w) % 2 ^ w ≡ 0
-eliminate w a b l y p x e g h = simp mods (by-both w (a + neg w * l * b) ((a + y * x) + neg w * l * (b + y * p)) (y * x) 0 (omega (arith, ap (λ (z : ℕ). y * z) e, ap (λ (z : ℕ). neg w * y * z) e))) ∙ split ∙ ap₂ (λ (s t : ℕ). (s + (neg w * l * t) % 2 ^ w) % 2 ^ w) g h ∙ simp mods (by-zero w _ 0 (omega arith))
+eliminate w a b l y p x e g h =
+    simp mods (by-both w (a + neg w * l * b) ((a + y * x) + neg w * l * (b + y * p)) (y * x) 0 (omega (arith, ap (λ (z : ℕ). y * z) e, ap (λ (z : ℕ). neg w * y * z) e)))
+    ∙ split
+    ∙ ap₂ (λ (s t : ℕ). (s + (neg w * l * t) % 2 ^ w) % 2 ^ w) g h
+    ∙ simp mods (by-zero w _ 0 (omega arith))
   where
     split : ((a + y * x) + neg w * l * (b + y * p)) % 2 ^ w ≡ ((a + y * x) % 2 ^ w + (neg w * l * ((b + y * p) % 2 ^ w)) % 2 ^ w) % 2 ^ w
     split = simp push (simp pull (ap (red (2 ^ w)) (omega arith)))
@@ -51,7 +56,10 @@ double w (slot-on {n} {e} {t} {f} le ft fine) h (x ∷ u) fv k = (l, sym (ap (λ
     l = found .0
 
     rest : (c : List ℕ) → Annihilates w n f c → dot w c (flip (less w u l t)) ≡ 0
-    rest c a = ap (dot w c) (flip-sums w (neg w * l) u t fu ft) ∙ dot-less w c (neg w * l) (flip u) (flip t) (fit-flip w fu) (fit-flip w ft) ∙ eliminate w (dot w c (flip u)) (dot w c (flip t)) l y (2 ^ e) x (found .1) (sym (dot-snoc w y x c (flip u) (a .fits .sized ∙ sym (fit-flip w fu .sized))) ∙ k (snoc c y) (ann-extra w le ft fine (h .0) c a)) (extra-is w le ft fine (h .0) c a)
+    rest c a =
+        ap (dot w c) (flip-sums w (neg w * l) u t fu ft)
+        ∙ dot-less w c (neg w * l) (flip u) (flip t) (fit-flip w fu) (fit-flip w ft)
+        ∙ eliminate w (dot w c (flip u)) (dot w c (flip t)) l y (2 ^ e) x (found .1) (sym (dot-snoc w y x c (flip u) (a .fits .sized ∙ sym (fit-flip w fu .sized))) ∙ k (snoc c y) (ann-extra w le ft fine (h .0) c a)) (extra-is w le ft fine (h .0) c a)
       where
         y : ℕ
         y = extra w (slot e t) c
@@ -91,7 +99,9 @@ span-fit w n rs c z s = record { sized = ap length (sym (s .gives)) ∙ length-s
 pub sum-killed : (w n : ℕ) (c ks : List ℕ) (rs : List (List ℕ)) → Sized n rs → Each (λ (r : List ℕ). dot w c r ≡ 0) rs → dot w c (sum w n ks rs) ≡ 0
 sum-killed w n c [] rs z e = dot-zero w n c
 sum-killed w n c (k ∷ ks) [] z e = dot-zero w n c
-sum-killed w n c (k ∷ ks) (r ∷ rs) (row-on s z) e = dot-plus w c (times w k r) (sum w n ks rs) (length-times w k r ∙ s ∙ sym (length-sum w ks z)) ∙ rw (dot-times w k c r, e .0, sum-killed w n c ks rs z (e .1)) (simp mods (by-zero w _ 0 (omega arith)))
+sum-killed w n c (k ∷ ks) (r ∷ rs) (row-on s z) e =
+    dot-plus w c (times w k r) (sum w n ks rs) (length-times w k r ∙ s ∙ sym (length-sum w ks z))
+    ∙ rw (dot-times w k c r, e .0, sum-killed w n c ks rs z (e .1)) (simp mods (by-zero w _ 0 (omega arith)))
 
 pub span-killed : (w n : ℕ) (c : List ℕ) (rs : List (List ℕ)) (v : List ℕ) → Sized n rs → Each (λ (r : List ℕ). dot w c r ≡ 0) rs → Span w n rs v → dot w c v ≡ 0
 span-killed w n c rs v z e s = ap (dot w c) (sym (s .gives)) ∙ sum-killed w n c (s .weights) rs z e
@@ -141,7 +151,8 @@ module _ (w n : ℕ) (rs : List (List ℕ)) (fits : Each (Fit w n) rs) where
     small = λ c a. a .fits .small;
   }
     where
-      both : (qs : List (List ℕ)) (k : ℕ) (c d : List ℕ) → Fit w n c → Fit w n d → Each (λ (r : List ℕ). dot w c r ≡ 0) qs → Each (λ (r : List ℕ). dot w d r ≡ 0) qs → Each (λ (r : List ℕ). dot w (plus w c (times w k d)) r ≡ 0) qs
+      both : (qs : List (List ℕ)) (k : ℕ) (c d : List ℕ) → Fit w n c → Fit w n d → Each (λ (r : List ℕ). dot w c r ≡ 0) qs
+          → Each (λ (r : List ℕ). dot w d r ≡ 0) qs → Each (λ (r : List ℕ). dot w (plus w c (times w k d)) r ≡ 0) qs
       both [] k c d p q a b = tt
       both (r ∷ qs) k c d p q a b = (dot-comm w (plus w c (times w k d)) r ∙ dot-less w r k c d p q ∙ rw (dot-comm w r c, a .0, dot-comm w r d, b .0) (simp mods (by-zero w _ 0 (omega arith))), both qs k c d p q (a .1) (b .1))
 

@@ -117,7 +117,8 @@ module _ (P Q : List ℕ → Type 0) (n : ℕ) (g : List ℕ → ℕ) (rs : List
   best-extend f = record { members = e-all; leads = e-leads; ordered = e-order; small = e-small; reaches = λ c p v h l. elim (e-reach c p v h l) [ inl o ↦ o | inr o ↦ absurd (omega (arith, f v (o .0), l .not-0)) ] }
 
   -- a row with a power of two there
-  pub best-append : (e : ℕ) → Q (snoc (replicate n 0) (2 ^ e)) → ((c : List ℕ) → P c → g c < 2 ^ e) → ((y : ℕ) → Q (snoc (replicate n 0) y) → (k : ℕ) × (y ≡ k * 2 ^ e)) → Best Q (extend g rs ++ (snoc (replicate n 0) (2 ^ e) ∷ []))
+  pub best-append : (e : ℕ) → Q (snoc (replicate n 0) (2 ^ e)) → ((c : List ℕ) → P c → g c < 2 ^ e)
+      → ((y : ℕ) → Q (snoc (replicate n 0) y) → (k : ℕ) × (y ≡ k * 2 ^ e)) → Best Q (extend g rs ++ (snoc (replicate n 0) (2 ^ e) ∷ []))
   best-append e qz low mult = record { members = members; leads = leads; ordered = ordered; small = small; reaches = reaches }
     where
       z : List ℕ

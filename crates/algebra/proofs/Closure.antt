@@ -122,7 +122,9 @@ module _ (w N : ℕ) (es : List Edge) (lin : (e : Edge) → On e es → Linear w
     pub closed : (e : Edge) → On e es → Closed-under forms e
     pub larger : (n : ℕ) (u : List ℕ) → Fit w N u → In w (fs n) u → In w (forms n) u
 
-  step : (fuel : ℕ) (fs : ℕ → Form) (good : (n : ℕ) → Good n (fs n)) → total fs es < suc fuel → ((gs : ℕ → Form) → ((n : ℕ) → Good n (gs n)) → total gs es < fuel → Closure gs) → Larger fs good ⊎ ((e : Edge) → On e es → Closed-under fs e) → Closure fs
+  step : (fuel : ℕ) (fs : ℕ → Form) (good : (n : ℕ) → Good n (fs n)) → total fs es < suc fuel
+      → ((gs : ℕ → Form) → ((n : ℕ) → Good n (gs n)) → total gs es < fuel → Closure gs) → Larger fs good ⊎ ((e : Edge) → On e es → Closed-under fs e)
+      → Closure fs
   step fuel fs good h rec (inr c) = record { forms = fs; good = good; closed = c; larger = λ n u fu i. i }
   step fuel fs good h rec (inl l) =
       let c = rec gs gs-good (omega (arith, h, less-total)) in

@@ -117,7 +117,8 @@ cancel w k d e h g = (q, eq-of-mul-eq-mul-right (2 ^ e) (pow-pos e) k (q * 2 ^ d
     whole = rw h (omega (arith, div-add-mod (k * 2 ^ e) (2 ^ w), g))
 
 -- what begins with 0 is in the span of the rest
-pub howell-tail : (w : ℕ) {n : ℕ} {f : Form} {e : ℕ} {t : List ℕ} → WellFormed w n f → e ≤ w → Fit w n t → In w f (times w (2 ^ (w - e)) t) → (u : List ℕ) → Fit w n u → In w (slot e t ∷ f) (0 ∷ u) → In w f u
+pub howell-tail : (w : ℕ) {n : ℕ} {f : Form} {e : ℕ} {t : List ℕ} → WellFormed w n f → e ≤ w → Fit w n t → In w f (times w (2 ^ (w - e)) t)
+    → (u : List ℕ) → Fit w n u → In w (slot e t ∷ f) (0 ∷ u) → In w f u
 howell-tail w {n} {f} {e} {t} fine le ft h u fu (k, is, i) = subst (In w f) (ap (plus w (less w u k t)) again ∙ back w k u t (fu .sized ∙ sym (ft .sized)) (fu .small)) (in-add w fine l (less w u k t) (times w (2 ^ (w - e)) t) i h)
   where
     found : (l : ℕ) × (k ≡ l * 2 ^ (w - e))

@@ -34,7 +34,8 @@ pub insert-big : (w e x : ℕ) (t v : List ℕ) (f : Form) → e ≤ trailingZer
 unfolding insert
 insert-big w e x t v f h = rw (T-true (leb e (trailingZeros w x)) (le→leb e (trailingZeros w x) h), insert)
 
-pub insert-new : (w e x : ℕ) (t v : List ℕ) (f : Form) → trailingZeros w x < e → insert w (slot e t ∷ f) (x ∷ v) ≡ slot (trailingZeros w x) (times w (inverse w (x / 2 ^ trailingZeros w x)) v) ∷ insert w f (less w t (2 ^ (e - trailingZeros w x)) (times w (inverse w (x / 2 ^ trailingZeros w x)) v))
+pub insert-new : (w e x : ℕ) (t v : List ℕ) (f : Form) → trailingZeros w x < e
+    → insert w (slot e t ∷ f) (x ∷ v) ≡ slot (trailingZeros w x) (times w (inverse w (x / 2 ^ trailingZeros w x)) v) ∷ insert w f (less w t (2 ^ (e - trailingZeros w x)) (times w (inverse w (x / 2 ^ trailingZeros w x)) v))
 unfolding insert
 insert-new w e x t v f h = rw (T-false (leb e (trailingZeros w x)) (lt→nleb e (trailingZeros w x) h), insert)
 
@@ -76,7 +77,12 @@ module _ (w : ℕ) {n : ℕ} {S : List ℕ → Type 0} (sub : Submodule w (suc n
   new-from a = subst S (cons-≡ head refl) (sub-times w sub y (x ∷ v) fv a)
     where
       head : (y * x) % 2 ^ w ≡ 2 ^ i % 2 ^ w
-      head = ap (λ (z : ℕ). z % 2 ^ w) (ap (λ (z : ℕ). y * z) is ∙ regroup) ∙ sym (mul-mod-mod (2 ^ i) (u * y) (2 ^ w)) ∙ ap (λ (z : ℕ). (2 ^ i * z) % 2 ^ w) one ∙ mul-mod-mod (2 ^ i) 1 (2 ^ w) ∙ ap (λ (z : ℕ). z % 2 ^ w) (mul-one (2 ^ i))
+      head =
+          ap (λ (z : ℕ). z % 2 ^ w) (ap (λ (z : ℕ). y * z) is ∙ regroup)
+          ∙ sym (mul-mod-mod (2 ^ i) (u * y) (2 ^ w))
+          ∙ ap (λ (z : ℕ). (2 ^ i * z) % 2 ^ w) one
+          ∙ mul-mod-mod (2 ^ i) 1 (2 ^ w)
+          ∙ ap (λ (z : ℕ). z % 2 ^ w) (mul-one (2 ^ i))
         where
           regroup : y * (u * 2 ^ i) ≡ 2 ^ i * (u * y)
           regroup = omega arith
@@ -116,13 +122,16 @@ inside-insert w (slot-on {n = m} {e} {t} {f} le ft fine) S (x ∷ v) sub fv = el
     u : ℕ
     u = x / 2 ^ i
 
-    big : e ≤ i → Inside w (Tail S) (insert w f (less w v (x / 2 ^ e) t)) ↔ (Inside w (Tail S) f × S (0 ∷ less w v (x / 2 ^ e) t)) → Inside w S (slot e t ∷ insert w f (less w v (x / 2 ^ e) t)) ↔ (Inside w S (slot e t ∷ f) × S (x ∷ v))
+    big : e ≤ i → Inside w (Tail S) (insert w f (less w v (x / 2 ^ e) t)) ↔ (Inside w (Tail S) f × S (0 ∷ less w v (x / 2 ^ e) t))
+        → Inside w S (slot e t ∷ insert w f (less w v (x / 2 ^ e) t)) ↔ (Inside w S (slot e t ∷ f) × S (x ∷ v))
     big h ih = (λ a. (let b = ih .0 (a .1) in ((a .0, b .0), big-to w sub e x (x / 2 ^ e) t v q ft fv (a .0) (b .1))), λ a. (a .0 .0, ih .1 (a .0 .1, big-from w sub e x (x / 2 ^ e) t v q ft fv (a .0 .0) (a .1))))
       where
         q : x ≡ x / 2 ^ e * 2 ^ e
         q = quotient w e x h
 
-    new : i < e → Inside w (Tail S) (insert w f (less w t (2 ^ (e - i)) (times w (inverse w u) v))) ↔ (Inside w (Tail S) f × S (0 ∷ less w t (2 ^ (e - i)) (times w (inverse w u) v))) → Inside w S (slot i (times w (inverse w u) v) ∷ insert w f (less w t (2 ^ (e - i)) (times w (inverse w u) v))) ↔ (Inside w S (slot e t ∷ f) × S (x ∷ v))
+    new : i < e
+        → Inside w (Tail S) (insert w f (less w t (2 ^ (e - i)) (times w (inverse w u) v))) ↔ (Inside w (Tail S) f × S (0 ∷ less w t (2 ^ (e - i)) (times w (inverse w u) v)))
+        → Inside w S (slot i (times w (inverse w u) v) ∷ insert w f (less w t (2 ^ (e - i)) (times w (inverse w u) v))) ↔ (Inside w S (slot e t ∷ f) × S (x ∷ v))
     new h ih = (λ a. (let b = ih .0 (a .1) in ((subst (λ (z : ℕ). S ((2 ^ z % 2 ^ w) ∷ t)) sum-is (old-to w sub i (e - i) x u (inverse w u) t v q o ft fv (b .1) (a .0)), b .0), new-to w sub i (e - i) x u (inverse w u) t v q o ft fv (a .0))), λ a. (let n1 = new-from w sub i (e - i) x u (inverse w u) t v q o ft fv (a .1) in (n1, ih .1 (a .0 .1, old-from w sub i (e - i) x u (inverse w u) t v q o ft fv (subst (λ (z : ℕ). S ((2 ^ z % 2 ^ w) ∷ t)) (sym sum-is) (a .0 .0)) n1))))
       where
         q : x ≡ u * 2 ^ i

@@ -45,7 +45,8 @@ unfolding grow
 howell-grow w f [] fine h a = h
 howell-grow w f (v ∷ vs) fine h a = howell-grow w (insert w f v) vs (fine-insert w fine v (a .0)) (howell-insert w fine h v (a .0)) (a .1)
 
-pub inside-grow : (w : ℕ) {n : ℕ} (S : List ℕ → Type 0) → Submodule w n S → (f : Form) (vs : List (List ℕ)) → WellFormed w n f → Each (Fit w n) vs → Inside w S (grow w f vs) ↔ (Inside w S f × Each S vs)
+pub inside-grow : (w : ℕ) {n : ℕ} (S : List ℕ → Type 0) → Submodule w n S → (f : Form) (vs : List (List ℕ)) → WellFormed w n f → Each (Fit w n) vs
+    → Inside w S (grow w f vs) ↔ (Inside w S f × Each S vs)
 unfolding grow
 inside-grow w S sub f [] fine a = (λ i. (i, tt), λ i. i .0)
 inside-grow w S sub f (v ∷ vs) fine a =

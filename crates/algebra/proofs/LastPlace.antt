@@ -81,7 +81,9 @@ flip-times w k (x ∷ xs) = ap (λ (z : List ℕ). snoc z ((k * x) % 2 ^ w)) (fl
 pub flip-plus : (w : ℕ) (xs ys : List ℕ) → length xs ≡ length ys → flip (plus w xs ys) ≡ plus w (flip xs) (flip ys)
 flip-plus w [] ys e = refl
 flip-plus w (x ∷ xs) [] e = absurd (omega arith)
-flip-plus w (x ∷ xs) (y ∷ ys) e = ap (λ (z : List ℕ). snoc z ((x + y) % 2 ^ w)) (flip-plus w xs ys (suc-inj e)) ∙ sym (plus-snoc w x y (flip xs) (flip ys) (length-flip xs ∙ suc-inj e ∙ sym (length-flip ys)))
+flip-plus w (x ∷ xs) (y ∷ ys) e =
+    ap (λ (z : List ℕ). snoc z ((x + y) % 2 ^ w)) (flip-plus w xs ys (suc-inj e))
+    ∙ sym (plus-snoc w x y (flip xs) (flip ys) (length-flip xs ∙ suc-inj e ∙ sym (length-flip ys)))
 
 pub flip-sums : (w : ℕ) {n : ℕ} (k : ℕ) (c d : List ℕ) → Fit w n c → Fit w n d → flip (plus w c (times w k d)) ≡ plus w (flip c) (times w k (flip d))
 flip-sums w k c d p q = flip-plus w c (times w k d) (p .sized ∙ sym (q .sized) ∙ sym (length-times w k d)) ∙ ap (plus w (flip c)) (flip-times w k d)

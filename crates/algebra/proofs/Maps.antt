@@ -28,7 +28,11 @@ sum-fit w n ks rs e = record { sized = length-sum w ks (sized-each w n rs e); sm
 pub sum-through : (w n : ℕ) (m : List ℕ → List ℕ) → Linear w n m → (ks : List ℕ) (rs : List (List ℕ)) → Each (Fit w n) rs → sum w n ks (through m rs) ≡ m (sum w n ks rs)
 sum-through w n m l [] rs e = sym (l .zeros)
 sum-through w n m l (k ∷ ks) [] e = sym (l .zeros)
-sum-through w n m l (k ∷ ks) (r ∷ rs) e = plus-comm w (times w k (m r)) (sum w n ks (through m rs)) ∙ ap (λ (z : List ℕ). plus w z (times w k (m r))) (sum-through w n m l ks rs (e .1)) ∙ sym (l .sums k (sum w n ks rs) r (sum-fit w n ks rs (e .1)) (e .0)) ∙ ap m (plus-comm w (sum w n ks rs) (times w k r))
+sum-through w n m l (k ∷ ks) (r ∷ rs) e =
+    plus-comm w (times w k (m r)) (sum w n ks (through m rs))
+    ∙ ap (λ (z : List ℕ). plus w z (times w k (m r))) (sum-through w n m l ks rs (e .1))
+    ∙ sym (l .sums k (sum w n ks rs) r (sum-fit w n ks rs (e .1)) (e .0))
+    ∙ ap m (plus-comm w (sum w n ks rs) (times w k r))
 
 pub length-through : (m : List ℕ → List ℕ) (rs : List (List ℕ)) → length (through m rs) ≡ length rs
 length-through m [] = refl

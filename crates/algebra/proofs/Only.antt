@@ -238,7 +238,8 @@ past-best is r rs p v l a = record {
   reaches = λ c q x h m. (let f = a .reaches c q x (h .0) m in from c q x (h .1) m (f .0) (f .1) (f .2) (f .3) (f .4) (f .5) (f .6));
 }
   where
-    from : (c : List ℕ) (q x : ℕ) → Low (suc p) c → Lead c q x → (t : List ℕ) (i v′ k : ℕ) → Row t i (r ∷ rs) → Lead t q v′ → x ≡ k * v′ → (t₁ : List ℕ) × (i₁ : ℕ) × (w₁ : ℕ) × (k₁ : ℕ) × Row t₁ i₁ rs × Lead t₁ q w₁ × (x ≡ k₁ * w₁)
+    from : (c : List ℕ) (q x : ℕ) → Low (suc p) c → Lead c q x → (t : List ℕ) (i v′ k : ℕ) → Row t i (r ∷ rs) → Lead t q v′ → x ≡ k * v′
+        → (t₁ : List ℕ) × (i₁ : ℕ) × (w₁ : ℕ) × (k₁ : ℕ) × Row t₁ i₁ rs × Lead t₁ q w₁ × (x ≡ k₁ * w₁)
     from c q x low m t zero v′ k row lt e = let f : Lead r q v′ = subst (λ (y : List ℕ). Lead y q v′) (row-same row here) lt in let g = lead-place l f in let z = low-nth (suc p) q x c low (omega arith) (m .is) in let y = m .not-0 in absurd (omega arith)
     from c q x low m t (suc i) v′ k (there row) lt e = (t, i, v′, k, row, lt, e)
 

@@ -84,7 +84,10 @@ module _ (w : ℕ) {n e : ℕ} {t : List ℕ} {f : Form} (le : e ≤ w) (ft : Fi
 
     pub extra-is : (c : List ℕ) → Annihilates w n f c → (dot w c (flip t) + extra w (slot e t) c * 2 ^ e) % 2 ^ w ≡ 0
     unfolding extra
-    extra-is c a = ap (λ (z : ℕ). (dot w c (flip t) + z) % 2 ^ w) scaled ∙ ap (λ (z : ℕ). (z + (neg w * l * 2 ^ e) % 2 ^ w) % 2 ^ w) (d .1) ∙ simp push (simp pull (simp out (by-zero w _ (l * 2 ^ e) (omega arith))))
+    extra-is c a =
+        ap (λ (z : ℕ). (dot w c (flip t) + z) % 2 ^ w) scaled
+        ∙ ap (λ (z : ℕ). (z + (neg w * l * 2 ^ e) % 2 ^ w) % 2 ^ w) (d .1)
+        ∙ simp push (simp pull (simp out (by-zero w _ (l * 2 ^ e) (omega arith))))
       where
         d : (l : ℕ) × (dot w c (flip t) ≡ l * 2 ^ e)
         d = divisible c a
@@ -102,7 +105,8 @@ module _ (w : ℕ) {n e : ℕ} {t : List ℕ} {f : Form} (le : e ≤ w) (ft : Fi
     ann-extra c a = ann-up c (extra w (slot e t) c) (lt-of-lt-of-le (extra-low c) (pow-mono {i = w - e} {j = w} (omega arith))) a (extra-is c a)
 
 -- a longer row is a shorter one with a place
-pub down : (w : ℕ) {n e : ℕ} {t : List ℕ} {f : Form} → e ≤ w → Fit w n t → WellFormed w n f → (c : List ℕ) → Annihilates w (suc n) (slot e t ∷ f) c → (d : List ℕ) × (y : ℕ) × (c ≡ snoc d y) × Annihilates w n f d
+pub down : (w : ℕ) {n e : ℕ} {t : List ℕ} {f : Form} → e ≤ w → Fit w n t → WellFormed w n f → (c : List ℕ) → Annihilates w (suc n) (slot e t ∷ f) c
+    → (d : List ℕ) × (y : ℕ) × (c ≡ snoc d y) × Annihilates w n f d
 down w {n} {e} {t} {f} le ft fine c a = let o = unsnoc n c (a .fits .sized) in (o .0, o .1, o .2, ann-down w le ft fine (o .0) (o .1) (subst (Annihilates w (suc n) (slot e t ∷ f)) (o .2) a))
 
 pub length-fine : (w : ℕ) {n : ℕ} {f : Form} → WellFormed w n f → length f ≡ n
@@ -120,7 +124,8 @@ none-below : (m k y : ℕ) → y ≡ k * m → y < m → y ≡ 0
 none-below m zero y e h = omega arith
 none-below m (suc k) y e h = absurd (omega arith)
 
-best-slot : (w : ℕ) {n : ℕ} (e : ℕ) {t : List ℕ} {f : Form} → e ≤ w → Fit w n t → WellFormed w n f → In w f (times w (2 ^ (w - e)) t) → Best (Annihilates w n f) (tell w f) → Best (Annihilates w (suc n) (slot e t ∷ f)) (extend (extra w (slot e t)) (tell w f) ++ final w e n)
+best-slot : (w : ℕ) {n : ℕ} (e : ℕ) {t : List ℕ} {f : Form} → e ≤ w → Fit w n t → WellFormed w n f → In w f (times w (2 ^ (w - e)) t)
+    → Best (Annihilates w n f) (tell w f) → Best (Annihilates w (suc n) (slot e t ∷ f)) (extend (extra w (slot e t)) (tell w f) ++ final w e n)
 unfolding final
 best-slot w {n} zero {t} {f} le ft fine h a = rw (append-nil (extend (extra w (slot 0 t)) (tell w f))) (best-extend (Annihilates w n f) (Annihilates w (suc n) (slot 0 t ∷ f)) n (extra w (slot 0 t)) (tell w f) a (λ c b. b .fits .sized) (ann-extra w le ft fine h) (down w le ft fine) (λ y b. (let k = end-multiple w le ft fine y b in none-below (2 ^ w) (k .0) y (k .1 ∙ ap (λ (z : ℕ). k .0 * 2 ^ z) (less-none w)) (fit-unsnoc w (b .fits) .1))))
 best-slot w {n} (suc e) {t} {f} le ft fine h a = best-append (Annihilates w n f) (Annihilates w (suc n) (slot (suc e) t ∷ f)) n (extra w (slot (suc e) t)) (tell w f) a (λ c b. b .fits .sized) (ann-extra w le ft fine h) (down w le ft fine) (w - suc e) (ann-end w le ft fine (omega arith)) (λ c b. extra-low w le ft fine h c) (end-multiple w le ft fine)
@@ -137,7 +142,8 @@ tell-none w = best-none (Annihilates w 0 []) (λ c a. empty c (a .fits .sized))
     empty [] e = refl
     empty (x ∷ c) e = absurd (omega arith)
 
-tell-next : (w : ℕ) {n e : ℕ} {t : List ℕ} {f : Form} → e ≤ w → Fit w n t → WellFormed w n f → In w f (times w (2 ^ (w - e)) t) → Best (Annihilates w n f) (tell w f) → Best (Annihilates w (suc n) (slot e t ∷ f)) (tell w (slot e t ∷ f))
+tell-next : (w : ℕ) {n e : ℕ} {t : List ℕ} {f : Form} → e ≤ w → Fit w n t → WellFormed w n f → In w f (times w (2 ^ (w - e)) t)
+    → Best (Annihilates w n f) (tell w f) → Best (Annihilates w (suc n) (slot e t ∷ f)) (tell w (slot e t ∷ f))
 tell-next w {n} {e} {t} {f} le ft fine h a = subst (Best (Annihilates w (suc n) (slot e t ∷ f))) (tell-slot w (slot e t) f (length-fine w fine)) (best-slot w e le ft fine h a)
 
 pub best-tell : (w : ℕ) {n : ℕ} {f : Form} → WellFormed w n f → Howell w f → Best (Annihilates w n f) (tell w f)

@@ -32,7 +32,8 @@ pub record Inserting : Type 0 where
   pub falls : (w : ℕ) (f : Form) (v : List ℕ) → (insert w f v ≡ f) ⊎ (weight (insert w f v) < weight f)
   pub bounded : (w n : ℕ) (f : Form) → WellFormed w n f → weight f ≤ w * n
   -- the form of any rows, inserted one after the other, spans their sums
-  pub rows : (w n : ℕ) (vs : List (List ℕ)) → Each (Fit w n) vs → WellFormed w n (form-of w n vs) × Howell w (form-of w n vs) × ((u : List ℕ) → Fit w n u → In w (form-of w n vs) u ↔ Span w n vs u)
+  pub rows : (w n : ℕ) (vs : List (List ℕ)) → Each (Fit w n) vs
+      → WellFormed w n (form-of w n vs) × Howell w (form-of w n vs) × ((u : List ℕ) → Fit w n u → In w (form-of w n vs) u ↔ Span w n vs u)
   -- rows none of which is a sum of those before it are at most w for each place
   pub grows : (w n : ℕ) (vs : List (List ℕ)) → Fresh w n vs → length vs ≤ w * n
 
@@ -41,7 +42,8 @@ pub record Annihilating : Type 0 where
   -- the rows told are the best rows of all that annihilates a form
   pub told : (w n : ℕ) (f : Form) → WellFormed w n f → Howell w f → Best (Annihilates w n f) (tell w f)
   -- and what comes to 0 with all of them is in the form's span
-  pub double : (w n : ℕ) (f : Form) → WellFormed w n f → Howell w f → (v : List ℕ) → Fit w n v → ((c : List ℕ) → Annihilates w n f c → dot w c (flip v) ≡ 0) → In w f v
+  pub double : (w n : ℕ) (f : Form) → WellFormed w n f → Howell w f → (v : List ℕ) → Fit w n v
+      → ((c : List ℕ) → Annihilates w n f c → dot w c (flip v) ≡ 0) → In w f v
   -- the same of any rows
   pub best : (w n : ℕ) (rs : List (List ℕ)) → Each (Fit w n) rs → Best (Ann w n rs) (annihilator w n rs)
   pub twice : (w n : ℕ) (rs : List (List ℕ)) → Each (Fit w n) rs → (v : List ℕ) → Fit w n v → ((c : List ℕ) → Ann w n rs c → dot w c v ≡ 0) → Span w n rs v
@@ -59,17 +61,21 @@ pub record Solved (w n : ℕ) (es : List Edge) (start : ℕ → Form) : Type 0 w
   pub exact : (p : ℕ) (u : List ℕ) → Fit w n u → In w (forms p) u ↔ Gen w n (Reach w n es start p) u
   pub starts : (p : ℕ) (u : List ℕ) → Fit w n u → In w (start p) u → In w (forms p) u
   pub closed : (e : Edge) → On e es → (u : List ℕ) → Fit w n u → In w (forms (e .from)) u → In w (forms (e .to)) (e .map u)
-  pub least : (gs : ℕ → Form) → ((p : ℕ) → WellFormed w n (gs p)) → ((p : ℕ) (u : List ℕ) → Fit w n u → In w (start p) u → In w (gs p) u) → ((e : Edge) → On e es → (u : List ℕ) → Fit w n u → In w (gs (e .from)) u → In w (gs (e .to)) (e .map u)) → (p : ℕ) (u : List ℕ) → Fit w n u → In w (forms p) u → In w (gs p) u
+  pub least : (gs : ℕ → Form) → ((p : ℕ) → WellFormed w n (gs p)) → ((p : ℕ) (u : List ℕ) → Fit w n u → In w (start p) u → In w (gs p) u)
+      → ((e : Edge) → On e es → (u : List ℕ) → Fit w n u → In w (gs (e .from)) u → In w (gs (e .to)) (e .map u)) → (p : ℕ) (u : List ℕ)
+      → Fit w n u → In w (forms p) u → In w (gs p) u
 
 abbrev pub Linear-edges : ℕ → ℕ → List Edge → Type 0
 Linear-edges w n es = (e : Edge) → On e es → Linear w n (e .map)
 
 -- from any start forms, and from any start rows
 abbrev pub Systems : Type 0
-Systems = (w n : ℕ) (es : List Edge) → Linear-edges w n es → (start : ℕ → Form) → ((p : ℕ) → WellFormed w n (start p)) → ((p : ℕ) → Howell w (start p)) → Solved w n es start
+Systems = (w n : ℕ) (es : List Edge) → Linear-edges w n es → (start : ℕ → Form) → ((p : ℕ) → WellFormed w n (start p))
+    → ((p : ℕ) → Howell w (start p)) → Solved w n es start
 
 abbrev pub Systems-of-rows : Type 0
-Systems-of-rows = (w n : ℕ) (es : List Edge) → Linear-edges w n es → (rows : ℕ → List (List ℕ)) → ((p : ℕ) → Each (Fit w n) (rows p)) → Solved w n es (λ p. form-of w n (rows p))
+Systems-of-rows = (w n : ℕ) (es : List Edge) → Linear-edges w n es → (rows : ℕ → List (List ℕ)) → ((p : ℕ) → Each (Fit w n) (rows p))
+    → Solved w n es (λ p. form-of w n (rows p))
 
 pub record Algebra : Type 0 where
   -- odd numbers have inverses

@@ -27,7 +27,8 @@ use Rattle.listing.specs.Steps.{with-step, FromSays, with-steps, with-points}
 pub step-read : (k m n : ℕ) (ws rest : List ℕ) (r s : Step) → Starts k m ws r n → T (valid-step bound k m s) → ws ≡ encode-step s ++ rest → r ≡ s
 step-read k m n ws rest r s h v e = same-step bound k m m r s (drop n ws) rest (h .valid) v (sym (h .is) ∙ e) .0
 
-pub from-says : (words points : Option (List ℕ)) (point : ℕ) (r s : Step) (out out′ : List ℕ) → r ≡ s → r .from ≡ point → out′ ≡ with-step words points r out → FromSays words points point s out out′ true
+pub from-says : (words points : Option (List ℕ)) (point : ℕ) (r s : Step) (out out′ : List ℕ) → r ≡ s → r .from ≡ point
+    → out′ ≡ with-step words points r out → FromSays words points point s out out′ true
 from-says words points point r s out out′ q p e = record { test = sym (eq-eqb (s .from) point (sym (ap (λ (t : Step). t .from) q) ∙ p)); text = e ∙ ap (λ (t : Step). with-step words points t out) q }
 
 -- step number i, where it begins, and the steps behind it
@@ -45,7 +46,9 @@ valid-drop b k m (suc i) [] v = tt
 valid-drop b k m (suc i) (s ∷ ss) v = valid-drop b k m i ss (and-r (valid-step b k m s) (valid-steps b k m ss) v)
 
 encode-drop : (i : ℕ) (ss : List Step) → drop (length (encode-steps (take i ss))) (encode-steps ss) ≡ encode-steps (drop i ss)
-encode-drop i ss = ap (drop (length (encode-steps (take i ss)))) (ap encode-steps (sym (take-append-drop i ss)) ∙ encode-append (take i ss) (drop i ss)) ∙ drop-at (encode-steps (take i ss)) (encode-steps (drop i ss)) (length (encode-steps (take i ss))) refl
+encode-drop i ss =
+    ap (drop (length (encode-steps (take i ss)))) (ap encode-steps (sym (take-append-drop i ss)) ∙ encode-append (take i ss) (drop i ss))
+    ∙ drop-at (encode-steps (take i ss)) (encode-steps (drop i ss)) (length (encode-steps (take i ss))) refl
 
 -- three words stand before the steps
 behind-header : (n : ℕ) (p : Program) → drop (3 + n) (encode p) ≡ drop n (encode-steps (p .steps))
@@ -91,5 +94,6 @@ module _ (words points : Option (List ℕ)) (point : ℕ) (first : Bool) (i : �
   steps-end e = rw (drop-all i ss all, e)
 
 -- the points, one after the other
-pub points-more : (words points : Option (List ℕ)) (ss : List Step) (n i : ℕ) (out : List ℕ) → i < n → with-points words points ss (n - i) i out ≡ with-points words points ss (n - (i + 1)) (i + 1) (with-steps words points i true ss (with-name points 112 i out ++ (10 ∷ [])))
+pub points-more : (words points : Option (List ℕ)) (ss : List Step) (n i : ℕ) (out : List ℕ) → i < n
+    → with-points words points ss (n - i) i out ≡ with-points words points ss (n - (i + 1)) (i + 1) (with-steps words points i true ss (with-name points 112 i out ++ (10 ∷ [])))
 points-more words points ss n i out h = let e : n - i ≡ suc (n - (i + 1)) = omega arith in rw (e, add-one)

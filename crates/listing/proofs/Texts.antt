@@ -42,7 +42,9 @@ module _ (txt old words : List ℕ) where
     clean = answer-ok (meaningOf (length old) txt .numbers) (meaningOf (length old) txt .flaw) n (r .answer) .0
 
     pub numbers-are : take n words ≡ meaningOf (length old) txt .numbers
-    numbers-are = ap (take n) (r .store) ∙ take-at (meaningOf (length old) txt .numbers) (drop (length (meaningOf (length old) txt .numbers)) old) n (sym (answer-ok (meaningOf (length old) txt .numbers) (meaningOf (length old) txt .flaw) n (r .answer) .1))
+    numbers-are =
+        ap (take n) (r .store)
+        ∙ take-at (meaningOf (length old) txt .numbers) (drop (length (meaningOf (length old) txt .numbers)) old) n (sym (answer-ok (meaningOf (length old) txt .numbers) (meaningOf (length old) txt .flaw) n (r .answer) .1))
 
 few-steps : (p : Program) → T (valid base p) → length (p .steps) ≤ 1024
 few-steps p v = leb→le (length (p .steps)) 1024 (and-l (leb (length (p .steps)) 1024) (valid-steps (base .bound) (p .words) (p .points) (p .steps)) (and-r (leb 1 (p .points) && leb (p .points) 256) (leb (length (p .steps)) 1024 && valid-steps (base .bound) (p .words) (p .points) (p .steps)) (and-r (leb 1 (p .words) && leb (p .words) 16) ((leb 1 (p .points) && leb (p .points) 256) && (leb (length (p .steps)) 1024 && valid-steps (base .bound) (p .words) (p .points) (p .steps))) v)))
@@ -74,7 +76,8 @@ module _ (txt old words : List ℕ) (n : ℕ) (r : text.Reads txt old words (Ok 
       let l = laid (take n words) o starts h (subst (λ (ws : List ℕ). ReadPost base ws o starts (Ok h)) part post) room in
       (l .0, record { clean = clean txt old words n r; reads = subst (λ (ws : List ℕ). Reads base ws (l .0)) (numbers-are txt old words n r) (l .1) }, l .2, within)
 
-  pub text-wrong : (e : Wrong) → NoProgram base (take (n - 0) words) (e .at) (e .fault) → (meaningOf (length old) txt .flaw ≡ None) × NoProgram base (meaningOf (length old) txt .numbers) (e .at) (e .fault)
+  pub text-wrong : (e : Wrong) → NoProgram base (take (n - 0) words) (e .at) (e .fault)
+      → (meaningOf (length old) txt .flaw ≡ None) × NoProgram base (meaningOf (length old) txt .numbers) (e .at) (e .fault)
   text-wrong e w = (clean txt old words n r, subst (λ (ws : List ℕ). NoProgram base ws (e .at) (e .fault)) (part ∙ numbers-are txt old words n r) w)
 
 -- the numbers of the program in place of those of its header, and a line of the text in place of what was found
@@ -87,5 +90,6 @@ misfit-is l m k j n e f h = subst (λ (x : ℕ). Misfit m x n) f (subst (λ (x :
 pub laid-part : (p : Program) (n : ℕ) (words starts : List ℕ) (h : Header) → Laid p (take n words) starts h → Laid p (take (n - 0) words) starts h
 laid-part p n words starts h l = let e : n - 0 ≡ n = omega arith in rw e l
 
-pub points-are : (l m a b : Option (List ℕ)) (p : Program) (out out′ : List ℕ) → l ≡ m → a ≡ b → out′ ≡ with-points l a (p .steps) (p .points) 0 out → out′ ≡ with-points m b (p .steps) (p .points) 0 out
+pub points-are : (l m a b : Option (List ℕ)) (p : Program) (out out′ : List ℕ) → l ≡ m → a ≡ b → out′ ≡ with-points l a (p .steps) (p .points) 0 out
+    → out′ ≡ with-points m b (p .steps) (p .points) 0 out
 points-are l m a b p out out′ e f h = h ∙ ap₂ (λ (x y : Option (List ℕ)). with-points x y (p .steps) (p .points) 0 out) e f

@@ -55,7 +55,9 @@ TextSays text old words starts (Err (WordNames n)) = ⊥
 TextSays text old words starts (Err (PointNames n)) = ⊥
 
 abbrev pub StepsSay : ℕ → List ℕ → List ℕ → List ℕ → Result Unit Refusal → Type 0
-StepsSay room text out out′ (Ok _) = (p : Program) × Holds room text p × Fitting (word-names text) (p .words) × Fitting (point-names text) (p .points) × (out′ ≡ with-points (word-names text) (point-names text) (p .steps) (p .points) 0 out)
+StepsSay room text out out′ (Ok _) =
+    (p : Program) × Holds room text p × Fitting (word-names text) (p .words) × Fitting (point-names text) (p .points)
+    × (out′ ≡ with-points (word-names text) (point-names text) (p .steps) (p .points) 0 out)
 StepsSay room text out out′ (Err Memory) = Unit {0}
 StepsSay room text out out′ (Err (Number f)) = (meaningOf room text .flaw ≡ Some f) × (out′ ≡ out)
 StepsSay room text out out′ (Err (NotProgram e)) = (meaningOf room text .flaw ≡ None) × NoProgram base (meaningOf room text .numbers) (e .at) (e .fault) × (out′ ≡ out)

@@ -21,4 +21,6 @@ dot-put w zero v (a ∷ c) (b ∷ r) e = simp push (simp pull (ap (red (2 ^ w)) 
 dot-put w (suc y) v (a ∷ c) (b ∷ r) e = ap (λ (z : ℕ). (a * b + z) % 2 ^ w) (dot-put w y v c r (suc-inj e)) ∙ simp push (simp pull (ap (red (2 ^ w)) (omega arith)))
 
 pub adjoint : (w : ℕ) → Adjoint w
-adjoint w k x cs c r ls lc lr = dot-put w (suc x) (dot w cs r) c r (lc ∙ sym lr) ∙ sym (plus-dot w (put c (suc x) 0) (times w (entry c (suc x)) cs) r (length-put c (suc x) 0 ∙ lc ∙ sym ls ∙ sym (length-times w (entry c (suc x)) cs)) ∙ ap (λ (z : ℕ). (dot w (put c (suc x) 0) r + z) % 2 ^ w) (times-dot w (entry c (suc x)) cs r) ∙ simp mods)
+adjoint w k x cs c r ls lc lr =
+    dot-put w (suc x) (dot w cs r) c r (lc ∙ sym lr)
+    ∙ sym (plus-dot w (put c (suc x) 0) (times w (entry c (suc x)) cs) r (length-put c (suc x) 0 ∙ lc ∙ sym ls ∙ sym (length-times w (entry c (suc x)) cs)) ∙ ap (λ (z : ℕ). (dot w (put c (suc x) 0) r + z) % 2 ^ w) (times-dot w (entry c (suc x)) cs r) ∙ simp mods)

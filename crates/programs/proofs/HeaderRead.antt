@@ -23,7 +23,8 @@ module _ (z : Limits) where
   words-in p v = let t = and-l (leb 1 (p .words) && leb (p .words) (z .max-words)) ((leb 1 (p .points) && leb (p .points) (z .max-points)) && (leb (length (p .steps)) (z .max-steps) && valid-steps (z .bound) (p .words) (p .points) (p .steps))) v in
       (leb→le 1 (p .words) (and-l (leb 1 (p .words)) (leb (p .words) (z .max-words)) t), leb→le (p .words) (z .max-words) (and-r (leb 1 (p .words)) (leb (p .words) (z .max-words)) t))
 
-  others : (p : Program) → T (valid z p) → T ((leb 1 (p .points) && leb (p .points) (z .max-points)) && (leb (length (p .steps)) (z .max-steps) && valid-steps (z .bound) (p .words) (p .points) (p .steps)))
+  others : (p : Program) → T (valid z p)
+      → T ((leb 1 (p .points) && leb (p .points) (z .max-points)) && (leb (length (p .steps)) (z .max-steps) && valid-steps (z .bound) (p .words) (p .points) (p .steps)))
   others p v = and-r (leb 1 (p .words) && leb (p .words) (z .max-words)) ((leb 1 (p .points) && leb (p .points) (z .max-points)) && (leb (length (p .steps)) (z .max-steps) && valid-steps (z .bound) (p .words) (p .points) (p .steps))) v
 
   points-in : (p : Program) → T (valid z p) → (1 ≤ p .points) × (p .points ≤ z .max-points)

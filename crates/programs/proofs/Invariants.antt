@@ -27,7 +27,10 @@ row-of (suc (suc (suc (suc n)))) = 0 ∷ 1 ∷ 0 ∷ []
 kept : {ms : List Move} {n : ℕ} {s : State} → Run 32 [] counters ms n s → dot 32 (row-of n) (1 ∷ s) ≡ 0
 kept (begins {s} h g) = zero-dot 32 3 (1 ∷ s)
 kept (goes {s} r at-first makes-set) = behind 2 0 (0 ∷ 0 ∷ 0 ∷ []) (row-of 4) s refl refl (fit-run 32 r .sized) ∙ zero-dot 32 3 (1 ∷ s)
-kept (goes {s} r (at-later at-first) makes-set) = behind 2 1 (0 ∷ 0 ∷ 0 ∷ []) (row-of 1) s refl refl (fit-run 32 r .sized) ∙ times-dot 32 3 (row-of 4) (1 ∷ s) ∙ ap (λ (z : ℕ). (3 * z) % 4294967296) (kept r)
+kept (goes {s} r (at-later at-first) makes-set) =
+    behind 2 1 (0 ∷ 0 ∷ 0 ∷ []) (row-of 1) s refl refl (fit-run 32 r .sized)
+    ∙ times-dot 32 3 (row-of 4) (1 ∷ s)
+    ∙ ap (λ (z : ℕ). (3 * z) % 4294967296) (kept r)
 kept (goes {s} r (at-later (at-later at-first)) makes-set) = behind 2 0 (2 ∷ 1 ∷ 0 ∷ []) (row-of 3) s refl refl (fit-run 32 r .sized) ∙ kept r
 kept (goes {s} r (at-later (at-later (at-later at-first))) makes-set) = behind 2 1 (3 ∷ 0 ∷ 1 ∷ []) (row-of 1) s refl refl (fit-run 32 r .sized) ∙ kept r
 kept (goes r (at-later (at-later (at-later (at-later at-first)))) makes-skip) = kept r

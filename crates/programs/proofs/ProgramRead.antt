@@ -30,7 +30,9 @@ module _ (z : code-limits.Limits) (ws : List ℕ) (k m n : ℕ) (ss : List Step)
   fault-is i Longer h = absurd h
 
   -- a program that begins with the steps and with a part of one more: steps that change nothing make up its number
-  completed : length ss < n → (s : Step) (i : ℕ) → T (valid-step bound k m s) → i ≤ length (encode-step s) → take i (encode-step s) ≡ take i (drop a ws) → (p : Program) × T (valid (limits-of z) p) × (a + i ≤ length (encode p)) × (take (a + i) (encode p) ≡ take (a + i) ws)
+  completed : length ss < n → (s : Step) (i : ℕ) → T (valid-step bound k m s) → i ≤ length (encode-step s)
+      → take i (encode-step s) ≡ take i (drop a ws)
+      → (p : Program) × T (valid (limits-of z) p) × (a + i ≤ length (encode p)) × (take (a + i) (encode p) ≡ take (a + i) ws)
   completed l s i v r e = (program k m (ss ++ ts), program-fits (limits-of z) ws k m n ss a b ts many fits, omega (arith, ap length is, length-append (take a ws) (encode-steps ts), length-append (encode-step s) (encode-steps rest), cut), same)
     where
       rest : List Step
@@ -52,7 +54,11 @@ module _ (z : code-limits.Limits) (ws : List ℕ) (k m n : ℕ) (ss : List Step)
       cut = length-take-le a ws (b .within)
 
       same : take (a + i) (encode (program k m (ss ++ ts))) ≡ take (a + i) ws
-      same = ap (take (a + i)) is ∙ take-past a i (take a ws) (encode-steps ts) cut ∙ ap (λ (x : List ℕ). take a ws ++ x) (take-append-le i (encode-step s) (encode-steps rest) r ∙ e) ∙ sym (take-add a i ws)
+      same =
+          ap (take (a + i)) is
+          ∙ take-past a i (take a ws) (encode-steps ts) cut
+          ∙ ap (λ (x : List ℕ). take a ws ++ x) (take-append-le i (encode-step s) (encode-steps rest) r ∙ e)
+          ∙ sym (take-add a i ws)
 
   -- the first word that no step has there is the first that no program has
   pub wrong-step : length ss < n → (i : ℕ) (f : Fault) → NoStep k m (drop a ws) i f → NoProgram (limits-of z) ws (a + i) f

@@ -20,7 +20,8 @@ use Rattle.programs.proofs.StepsWords.{encode-append, valid-append, valid-push
 abbrev pub program : ℕ → ℕ → List Step → Program
 program k m ss = record { words = k; points = m; steps = ss }
 
-pub valid-program : (z : Limits) (k m : ℕ) (ss : List Step) → (1 ≤ k) × (k ≤ z .max-words) → (1 ≤ m) × (m ≤ z .max-points) → length ss ≤ z .max-steps → T (valid-steps (z .bound) k m ss) → T (valid z (program k m ss))
+pub valid-program : (z : Limits) (k m : ℕ) (ss : List Step) → (1 ≤ k) × (k ≤ z .max-words) → (1 ≤ m) × (m ≤ z .max-points) → length ss ≤ z .max-steps
+    → T (valid-steps (z .bound) k m ss) → T (valid z (program k m ss))
 valid-program z k m ss p q l v =
     and-i (leb 1 k && leb k (z .max-words)) ((leb 1 m && leb m (z .max-points)) && (leb (length ss) (z .max-steps) && valid-steps (z .bound) k m ss))
     (and-i (leb 1 k) (leb k (z .max-words)) (le→leb 1 k (p .0)) (le→leb k (z .max-words) (p .1)))
@@ -80,7 +81,8 @@ module _ (z : Limits) (ws : List ℕ) (k m n : ℕ) (ss : List Step) (a : ℕ) (
   program-fits ts l v = valid-program z k m (ss ++ ts) (b .words) (b .points) (omega (arith, length-append ss ts, b .steps)) (valid-append (z .bound) k m ss ts (b .valid) v)
 
   -- one step more
-  pub more : length ss < n → (s : Step) (i : ℕ) → T (valid-step (z .bound) k m s) → drop a ws ≡ encode-step s ++ drop i (drop a ws) → length (encode-step s) ≡ i → i ≤ length (drop a ws) → Before z ws k m n (ss ++ s ∷ []) (a + i)
+  pub more : length ss < n → (s : Step) (i : ℕ) → T (valid-step (z .bound) k m s) → drop a ws ≡ encode-step s ++ drop i (drop a ws)
+      → length (encode-step s) ≡ i → i ≤ length (drop a ws) → Before z ws k m n (ss ++ s ∷ []) (a + i)
   more l s i v e size within =
       record {
         words = b .words;

@@ -44,7 +44,9 @@ find-one (r ∷ rs) = next (find-one rs) (head r)
     head [] = inr (λ s e. (let z : _≡_ {A = ℕ} 0 1 = cc in omega arith))
     head (x ∷ q) = elim (ℕ-discrete x 1) [ yes e ↦ inl (q, cons-≡ e refl) | no f ↦ inr (λ s e. f (cc)) ]
 
-    next : ((s : List ℕ) × (i : ℕ) × Row (1 ∷ s) i rs) ⊎ ((s : List ℕ) (i : ℕ) → Row (1 ∷ s) i rs → ⊥) → ((s : List ℕ) × (r ≡ 1 ∷ s)) ⊎ ((s : List ℕ) → r ≡ 1 ∷ s → ⊥) → ((s : List ℕ) × (i : ℕ) × Row (1 ∷ s) i (r ∷ rs)) ⊎ ((s : List ℕ) (i : ℕ) → Row (1 ∷ s) i (r ∷ rs) → ⊥)
+    next : ((s : List ℕ) × (i : ℕ) × Row (1 ∷ s) i rs) ⊎ ((s : List ℕ) (i : ℕ) → Row (1 ∷ s) i rs → ⊥)
+        → ((s : List ℕ) × (r ≡ 1 ∷ s)) ⊎ ((s : List ℕ) → r ≡ 1 ∷ s → ⊥)
+        → ((s : List ℕ) × (i : ℕ) × Row (1 ∷ s) i (r ∷ rs)) ⊎ ((s : List ℕ) (i : ℕ) → Row (1 ∷ s) i (r ∷ rs) → ⊥)
     next (inl f) h = inl (f .0, suc (f .1), there (f .2))
     next (inr g) (inl e) = inl (e .0, 0, subst (λ (q : List ℕ). Row q 0 (r ∷ rs)) (e .1) here)
     next (inr g) (inr f) = inr (λ s i h. not-first h refl f g)

@@ -46,7 +46,8 @@ over k m ws at end f l o stays begun why =
     }
 
 -- the first word that no step has
-wrong : (k m : ℕ) (ws : List ℕ) (at end : ℕ) (f : Fault) (e : Wrong) → Goes k m ws at → Stays k m ws at end → (0 < k → 0 < m → Begun k m ws at) → (end ≤ getD ws at 0 → StepFault k m ws at f) → Missing ws at e ⊎ Large ws at end f e → NoStep k m ws (e .at) (e .fault)
+wrong : (k m : ℕ) (ws : List ℕ) (at end : ℕ) (f : Fault) (e : Wrong) → Goes k m ws at → Stays k m ws at end → (0 < k → 0 < m → Begun k m ws at)
+    → (end ≤ getD ws at 0 → StepFault k m ws at f) → Missing ws at e ⊎ Large ws at end f e → NoStep k m ws (e .at) (e .fault)
 wrong k m ws at end f e goes stays begun why (inl h) = rw (h .here, h .fault) (ends k m ws at (h .ends) goes begun)
 wrong k m ws at end f e goes stays begun why (inr h) = rw (h .here, h .fault) (over k m ws at end f (h .within) (h .large) stays begun (why (h .large)))
 
@@ -81,7 +82,8 @@ module _ (k m : ℕ) (ws : List ℕ) {x y : ℕ} (p : Below ws 0 m x) (q : Below
       kind : (s : Step) (us : List ℕ) → take (length ws) (encode-step s ++ us) ≡ take (length ws) ws → getD (encode-action (s .action) ++ us) 0 0 ≡ 0
       kind s us h = same-at (length ws) 2 (encode-step s ++ us) ws h (omega arith) ∙ r .is
 
-  pub starts-set : ((i : ℕ) → getD ws i 0 < bound) → Below ws 2 3 0 → {v : ℕ} → Below ws 3 k v → k + 5 ≤ length ws → (cs : List ℕ) → cs ≡ take (suc k) (drop 4 ws) → Starts k m ws (step-at x y (set v cs)) (k + 5)
+  pub starts-set : ((i : ℕ) → getD ws i 0 < bound) → Below ws 2 3 0 → {v : ℕ} → Below ws 3 k v → k + 5 ≤ length ws → (cs : List ℕ)
+      → cs ≡ take (suc k) (drop 4 ws) → Starts k m ws (step-at x y (set v cs)) (k + 5)
   starts-set fits r {v} w long cs e =
       record {
         valid = valid-i k m (step-at x y (set v cs)) (p .small) (q .small) (valid-set k v cs (w .small) size small);

@@ -83,7 +83,8 @@ begun-3 k m (x ∷ y ∷ zero ∷ ws) h l p q r = (step-at x y (set 0 (replicate
 begun-3 k m (x ∷ y ∷ suc zero ∷ ws) h l p q r = (step-at x y (any 0), valid-i k m (step-at x y (any 0)) p q (lt→ltb 0 k h), omega arith, refl)
 begun-3 k m (x ∷ y ∷ suc (suc t) ∷ ws) h l p q r = absurd (omega arith)
 
-pub begun-set : (k m : ℕ) (ws : List ℕ) → ((i : ℕ) → getD ws i 0 < bound) → 3 < length ws → length ws < k + 5 → getD ws 0 0 < m → getD ws 1 0 < m → getD ws 2 0 ≡ 0 → getD ws 3 0 < k → Begun k m ws (length ws)
+pub begun-set : (k m : ℕ) (ws : List ℕ) → ((i : ℕ) → getD ws i 0 < bound) → 3 < length ws → length ws < k + 5 → getD ws 0 0 < m → getD ws 1 0 < m
+    → getD ws 2 0 ≡ 0 → getD ws 3 0 < k → Begun k m ws (length ws)
 begun-set k m [] fits l short p q z w = absurd (omega arith)
 begun-set k m (x ∷ []) fits l short p q z w = absurd (omega arith)
 begun-set k m (x ∷ y ∷ []) fits l short p q z w = absurd (omega arith)

@@ -63,7 +63,8 @@ mixed : (w x v : ℕ) {k : ℕ} (s : State) → 0 < w → v < 2 ^ w → Fit w k 
 mixed w x v s h l a = cons-≡ (simp push (simp pull (simp out (by-small w _ 1 v (one-small w h) (omega arith))))) (ap (λ (z : List ℕ). plus w z (times w v (put s x 1))) (sym (put-plus w (neg w * v) x 0 0 s s)) ∙ sym (put-plus w v x ((0 + (neg w * v * 0) % 2 ^ w) % 2 ^ w) 1 (plus w s (times w (neg w * v) s)) s) ∙ ap₂ (λ (z : List ℕ) (y : ℕ). put z x y) (back w v s s refl (a .small)) (simp push (simp pull (simp out (by-small w _ v 0 l (omega arith))))))
 
 -- and a state after a step is in a submodule that has what the maps make
-pub step-sound : (w : ℕ) {d : Action} {s u : State} {k : ℕ} → 0 < w → (S : List ℕ → Type 0) → Makes w d s u → Fit w k s → Submodule w (suc k) S → ((m : List ℕ → List ℕ) → Map w k d m → S (m (1 ∷ s))) → S (1 ∷ u)
+pub step-sound : (w : ℕ) {d : Action} {s u : State} {k : ℕ} → 0 < w → (S : List ℕ → Type 0) → Makes w d s u → Fit w k s → Submodule w (suc k) S
+    → ((m : List ℕ → List ℕ) → Map w k d m → S (m (1 ∷ s))) → S (1 ∷ u)
 step-sound w h S (makes-set {x} {cs} {s}) a sub f = f (set-map w x cs) map-set
 step-sound w {k} h S (makes-any {x} {v} {s} l) a sub f = subst S (mixed w x v s h l a) (sub .add v (plus w zero-row (times w (neg w * v) zero-row)) one-row (fit-plus w (neg w * v) fit-z fit-z) fit-o (sub .add (neg w * v) zero-row zero-row fit-z fit-z in-z in-z) in-o)
   where

@@ -41,7 +41,8 @@ pub record Behind (b k m : ℕ) (ss ts : List Step) (us : List ℕ) : Type 0 whe
   pub words : encode-steps others ≡ us
   pub valid : T (valid-steps b k m others)
 
-pub behind : (b k m : ℕ) (ss ts : List Step) (us : List ℕ) → T (valid-steps b k m ss) → T (valid-steps b k m ts) → length ss ≤ length ts → encode-steps ts ≡ encode-steps ss ++ us → Behind b k m ss ts us
+pub behind : (b k m : ℕ) (ss ts : List Step) (us : List ℕ) → T (valid-steps b k m ss) → T (valid-steps b k m ts) → length ss ≤ length ts
+    → encode-steps ts ≡ encode-steps ss ++ us → Behind b k m ss ts us
 behind b k m [] ts us p q l e = record { others = ts; is = refl; words = e; valid = q }
 behind b k m (s ∷ ss) [] us p q l e = absurd (omega arith)
 behind b k m (s ∷ ss) (t ∷ ts) us p q l e =

@@ -49,7 +49,8 @@ module _ (w : ℕ) (pos : 0 < w) (gs : List (List ℕ)) (p : Program) where
   good-insert n f v g fv r = record { fine = fine-insert w (g .fine) v fv; howell = howell-insert w (g .fine) (g .howell) v fv; within = inside-insert w (g .fine) (R n) v (R-sub n) fv .1 (g .within, r) }
 
   -- the rows of a good form through a step are such as may be inserted where it goes
-  pub good-rows : (t : Step) (i : ℕ) (m : List ℕ → List ℕ) (f : Form) → At t i (p .steps) → Map w (p .words) (t .action) m → Good (t .from) f → Each (λ (r : List ℕ). Fit w N (flipped m r) × R (t .to) (flipped m r)) (full w f)
+  pub good-rows : (t : Step) (i : ℕ) (m : List ℕ → List ℕ) (f : Form) → At t i (p .steps) → Map w (p .words) (t .action) m → Good (t .from) f
+      → Each (λ (r : List ℕ). Fit w N (flipped m r) × R (t .to) (flipped m r)) (full w f)
   good-rows t i m f a h g = both (full w f) (fits-full w (g .fine)) (inside-full w (R (t .from)) f .0 (g .within))
     where
       both : (rs : List (List ℕ)) → Each (Fit w N) rs → Each (R (t .from)) rs → Each (λ (r : List ℕ). Fit w N (flipped m r) × R (t .to) (flipped m r)) rs

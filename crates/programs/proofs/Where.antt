@@ -14,7 +14,8 @@ pub started-none : (o : List ℕ) → Started [] o o
 started-none o = record { len = refl; here = λ j h l. absurd (omega arith); later = λ j h. refl }
 
 module _ (ss : List Step) (s : Step) (o o′ : List ℕ) (h : Started ss o o′) where
-  here-more : (a j : ℕ) → a ≡ 3 + length (encode-steps ss) → (j < length ss) ⊎ (length ss ≤ j) → j ≤ length ss → j < length o → getD (set o′ (length ss) a) j 0 ≡ 3 + length (encode-steps (take j (ss ++ s ∷ [])))
+  here-more : (a j : ℕ) → a ≡ 3 + length (encode-steps ss) → (j < length ss) ⊎ (length ss ≤ j) → j ≤ length ss → j < length o
+      → getD (set o′ (length ss) a) j 0 ≡ 3 + length (encode-steps (take j (ss ++ s ∷ [])))
   here-more a j e (inl l) m r =
       let ne : j ≢ length ss = omega arith in
       getD-set-other o′ (length ss) j a 0 ne ∙ h .here j l r ∙ ap (λ (ts : List Step). 3 + length (encode-steps ts)) (sym (take-append-le j ss (s ∷ []) m))

@@ -3,22 +3,35 @@ use mathlib.Core.Path.{_≡_}
 use mathlib.Core.List.{List, [], _∷_}
 use Prim.Native.Nat.{ℕ}
 use Rattle.algebra.specs.Vec.{dot, sum}
-use Rattle.programs.specs.Programs.{set, any, skip, Program, Reads}
+use Rattle.programs.specs.Programs.{Action, set, any, skip, Step, Program, Reads}
 use Rattle.programs.specs.Runs.{Comes, Law}
 use Rattle.programs.specs.Kept.{mix}
 use Rattle.programs.specs.Plain.{base}
 
+abbrev pub step : ℕ → ℕ → Action → Step
+step from to action = record { from = from; to = to; action = action }
+
 -- 0 to 4 to 1: both words 0; 1 to 3 to 1: 2 more and 3 more; 1 to 2: out
 abbrev pub counters : Program
-counters = record { words = 2; points = 5; steps = record { from = 0; to = 4; action = set 0 (0 ∷ 0 ∷ 0 ∷ []) } ∷ record { from = 4; to = 1; action = set 1 (0 ∷ 0 ∷ 0 ∷ []) } ∷ record { from = 1; to = 3; action = set 0 (2 ∷ 1 ∷ 0 ∷ []) } ∷ record { from = 3; to = 1; action = set 1 (3 ∷ 0 ∷ 1 ∷ []) } ∷ record { from = 1; to = 2; action = skip } ∷ [] }
+counters = record {
+  words = 2;
+  points = 5;
+  steps =
+      step 0 4 (set 0 (0 ∷ 0 ∷ 0 ∷ []))
+      ∷ step 4 1 (set 1 (0 ∷ 0 ∷ 0 ∷ []))
+      ∷ step 1 3 (set 0 (2 ∷ 1 ∷ 0 ∷ []))
+      ∷ step 3 1 (set 1 (3 ∷ 0 ∷ 1 ∷ []))
+      ∷ step 1 2 skip
+      ∷ [];
+}
 
 -- 0 to 1: x becomes 2 x; 1 to 0: back
 abbrev pub doubling : Program
-doubling = record { words = 1; points = 2; steps = record { from = 0; to = 1; action = set 0 (0 ∷ 2 ∷ []) } ∷ record { from = 1; to = 0; action = skip } ∷ [] }
+doubling = record { words = 1; points = 2; steps = step 0 1 (set 0 (0 ∷ 2 ∷ [])) ∷ step 1 0 skip ∷ [] }
 
 -- 0 to 1: x becomes 5 and 3 x; 1 to 0: x becomes anything
 abbrev pub two-steps : Program
-two-steps = record { words = 1; points = 2; steps = record { from = 0; to = 1; action = set 0 (5 ∷ 3 ∷ []) } ∷ record { from = 1; to = 0; action = any 0 } ∷ [] }
+two-steps = record { words = 1; points = 2; steps = step 0 1 (set 0 (5 ∷ 3 ∷ [])) ∷ step 1 0 (any 0) ∷ [] }
 
 -- 3 x - 2 y, and half of the modulus times x
 abbrev pub three-two : List ℕ

@@ -74,5 +74,6 @@ pub record Stable (w : ℕ) (gs : List (List ℕ)) (p : Program) (fs : ℕ → F
   pub well : (n : ℕ) → WellFormed w (suc (p .words)) (fs n)
   pub howell : (n : ℕ) → Howell w (fs n)
   pub starts : (s : State) → Fit w (p .words) s → Holds w gs s → In w (fs 0) (flip (1 ∷ s))
-  pub goes : (t : Step) (i : ℕ) (m : List ℕ → List ℕ) → At t i (p .steps) → Map w (p .words) (t .action) m → Each (λ (r : List ℕ). In w (fs (t .to)) (flipped m r)) (full w (fs (t .from)))
+  pub goes : (t : Step) (i : ℕ) (m : List ℕ → List ℕ) → At t i (p .steps) → Map w (p .words) (t .action) m
+      → Each (λ (r : List ℕ). In w (fs (t .to)) (flipped m r)) (full w (fs (t .from)))
   pub no-more : (n : ℕ) (u : List ℕ) → Fit w (suc (p .words)) u → In w (fs n) u → Gen w (suc (p .words)) (Reached w gs p n) u

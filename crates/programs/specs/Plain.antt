@@ -69,10 +69,14 @@ pub record Plain : Type 0 where
   pub one-program : (ws : List ℕ) (p q : Program) → Reads base ws p → Reads base ws q → p ≡ q
   -- sums of laws are laws; every law is a sum of the best rows; and these are unique
   pub sums-are-laws : (p : Program) (n k : ℕ) (c d : List ℕ) → Law p n c → Law p n d → Law p n (plus c (times k d))
-  pub all-laws : (p : Program) (n : ℕ) (rs : List (List ℕ)) (c : List ℕ) → Best (Law p n) rs → Law p n c → (ks : List ℕ) × (length ks ≡ length rs) × (sum (suc (p .words)) ks rs ≡ c)
+  pub all-laws : (p : Program) (n : ℕ) (rs : List (List ℕ)) (c : List ℕ) → Best (Law p n) rs → Law p n c
+      → (ks : List ℕ) × (length ks ≡ length rs) × (sum (suc (p .words)) ks rs ≡ c)
   pub only-rows : (p : Program) (n : ℕ) (rs ss : List (List ℕ)) → Best (Law p n) rs → Best (Law p n) ss → rs ≡ ss
   -- every point has them
   pub has-rows : (p : Program) (n : ℕ) → (rs : List (List ℕ)) × Best (Law p n) rs
   -- a law holds of sums of states with weights that come to 1, and 32 states for each place are enough
-  pub kept-by-sums : (p : Program) (n : ℕ) (c u : List ℕ) (ws : List ℕ) (ss : List State) → Law p n c → AllCome p n ss → length ws ≡ length ss → mix (p .words) ws ss ≡ 1 ∷ u → dot c (1 ∷ u) ≡ 0
-  pub enough : (ws : List ℕ) (p : Program) (n : ℕ) → Reads base ws p → (ss : List State) × AllCome p n ss × (length ss ≤ 32 * suc (p .words)) × ((u : State) → Comes p n u → (ks : List ℕ) × (length ks ≡ length ss) × (mix (p .words) ks ss ≡ 1 ∷ u))
+  pub kept-by-sums : (p : Program) (n : ℕ) (c u : List ℕ) (ws : List ℕ) (ss : List State) → Law p n c → AllCome p n ss
+      → length ws ≡ length ss → mix (p .words) ws ss ≡ 1 ∷ u → dot c (1 ∷ u) ≡ 0
+  pub enough : (ws : List ℕ) (p : Program) (n : ℕ) → Reads base ws p
+      → (ss : List State) × AllCome p n ss × (length ss ≤ 32 * suc (p .words))
+      × ((u : State) → Comes p n u → (ks : List ℕ) × (length ks ≡ length ss) × (mix (p .words) ks ss ≡ 1 ∷ u))

@@ -45,7 +45,9 @@ valid-steps b k m [] = true
 valid-steps b k m (s ∷ ss) = valid-step b k m s && valid-steps b k m ss
 
 abbrev pub valid : Limits → Program → Bool
-valid z p = (leb 1 (p .words) && leb (p .words) (z .max-words)) && ((leb 1 (p .points) && leb (p .points) (z .max-points)) && (leb (length (p .steps)) (z .max-steps) && valid-steps (z .bound) (p .words) (p .points) (p .steps)))
+valid z p =
+    (leb 1 (p .words) && leb (p .words) (z .max-words))
+    && ((leb 1 (p .points) && leb (p .points) (z .max-points)) && (leb (length (p .steps)) (z .max-steps) && valid-steps (z .bound) (p .words) (p .points) (p .steps)))
 
 -- a program as words: how many words, points and steps; then each step: from, to, and 0 word number factors, 1 word, or 2
 abbrev pub encode-action : Action → List ℕ

@@ -40,7 +40,8 @@ pub record Move : Type 0 where
 -- given), and takes any steps that go on from where it is
 pub data Run (w : ℕ) (gs : List (List ℕ)) (p : Program) : List Move → ℕ → State → Type 0 where
   begins : {s : State} → Fit w (p .words) s → Holds w gs s → Run w gs p [] 0 s
-  goes : {ms : List Move} {s u : State} {t : Step} {i : ℕ} → Run w gs p ms (t .from) s → At t i (p .steps) → Makes w (t .action) s u → Run w gs p (record { number = i; after = u } ∷ ms) (t .to) u
+  goes : {ms : List Move} {s u : State} {t : Step} {i : ℕ} → Run w gs p ms (t .from) s → At t i (p .steps) → Makes w (t .action) s u
+      → Run w gs p (record { number = i; after = u } ∷ ms) (t .to) u
 
 -- a run comes to point n with the state s
 pub record Comes (w : ℕ) (gs : List (List ℕ)) (p : Program) (n : ℕ) (s : State) : Type 0 where

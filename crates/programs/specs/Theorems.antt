@@ -19,22 +19,26 @@ abbrev pub Sums-are-laws : ℕ → List (List ℕ) → Type 0
 Sums-are-laws w gs = (p : Program) (n k : ℕ) (c d : List ℕ) → Law w gs p n c → Law w gs p n d → Law w gs p n (plus w c (times w k d))
 
 abbrev pub All-laws : ℕ → List (List ℕ) → Type 0
-All-laws w gs = (p : Program) (n : ℕ) (rs : List (List ℕ)) (c : List ℕ) → Best (Law w gs p n) rs → Law w gs p n c → (ks : List ℕ) × (length ks ≡ length rs) × (sum w (suc (p .words)) ks rs ≡ c)
+All-laws w gs = (p : Program) (n : ℕ) (rs : List (List ℕ)) (c : List ℕ) → Best (Law w gs p n) rs → Law w gs p n c
+    → (ks : List ℕ) × (length ks ≡ length rs) × (sum w (suc (p .words)) ks rs ≡ c)
 
 abbrev pub Only-rows : ℕ → List (List ℕ) → Type 0
 Only-rows w gs = (p : Program) (n : ℕ) (rs ss : List (List ℕ)) → Best (Law w gs p n) rs → Best (Law w gs p n) ss → rs ≡ ss
 
 -- programs with the same laws at a point have the same rows there
 abbrev pub Same-rows : ℕ → List (List ℕ) → Type 0
-Same-rows w gs = (p q : Program) (m n : ℕ) (rs ss : List (List ℕ)) → p .words ≡ q .words → ((c : List ℕ) → Law w gs p m c ↔ Law w gs q n c) → Best (Law w gs p m) rs → Best (Law w gs q n) ss → rs ≡ ss
+Same-rows w gs = (p q : Program) (m n : ℕ) (rs ss : List (List ℕ)) → p .words ≡ q .words → ((c : List ℕ) → Law w gs p m c ↔ Law w gs q n c)
+    → Best (Law w gs p m) rs → Best (Law w gs q n) ss → rs ≡ ss
 
 -- what holds of states holds of their sums with weights that come to 1
 abbrev pub Sums-of-states : ℕ → Type 0
-Sums-of-states w = (k : ℕ) (c u ws : List ℕ) (ss : List State) → Each (Fit w (suc k)) (ones ss) → Each (λ (r : List ℕ). dot w c r ≡ 0) (ones ss) → length ws ≡ length ss → mix w k ws ss ≡ 1 ∷ u → dot w c (1 ∷ u) ≡ 0
+Sums-of-states w = (k : ℕ) (c u ws : List ℕ) (ss : List State) → Each (Fit w (suc k)) (ones ss)
+    → Each (λ (r : List ℕ). dot w c r ≡ 0) (ones ss) → length ws ≡ length ss → mix w k ws ss ≡ 1 ∷ u → dot w c (1 ∷ u) ≡ 0
 
 -- so states of which all that come are sums are enough to know every law by
 abbrev pub Kept-is-enough : ℕ → List (List ℕ) → Type 0
-Kept-is-enough w gs = (p : Program) (n : ℕ) (c : List ℕ) (ss : List State) → Each (Fit w (suc (p .words))) (ones ss) → Ann w (suc (p .words)) (ones ss) c → ((u : State) → Comes w gs p n u → Span w (suc (p .words)) (ones ss) (1 ∷ u)) → Law w gs p n c
+Kept-is-enough w gs = (p : Program) (n : ℕ) (c : List ℕ) (ss : List State) → Each (Fit w (suc (p .words))) (ones ss)
+    → Ann w (suc (p .words)) (ones ss) c → ((u : State) → Comes w gs p n u → Span w (suc (p .words)) (ones ss) (1 ∷ u)) → Law w gs p n c
 
 -- the rows given are rows of the program's words
 abbrev pub Given : ℕ → List (List ℕ) → Program → Type 0
@@ -42,7 +46,9 @@ Given w gs p = Each (Fit w (suc (p .words))) gs
 
 -- w states for each place are enough: every state that comes to the point is a sum of them
 abbrev pub Enough : ℕ → List (List ℕ) → Type 0
-Enough w gs = (p : Program) (n : ℕ) → Given w gs p → (ss : List State) × AllCome w gs p n ss × (length ss ≤ w * suc (p .words)) × ((u : State) → Comes w gs p n u → (ws : List ℕ) × (length ws ≡ length ss) × (mix w (p .words) ws ss ≡ 1 ∷ u))
+Enough w gs = (p : Program) (n : ℕ) → Given w gs p
+    → (ss : List State) × AllCome w gs p n ss × (length ss ≤ w * suc (p .words))
+    × ((u : State) → Comes w gs p n u → (ws : List ℕ) × (length ws ≡ length ss) × (mix w (p .words) ws ss ≡ 1 ∷ u))
 
 -- what is kept at a point grows at most w times for each place
 abbrev pub Grows-so-often : ℕ → Type 0
@@ -50,14 +56,18 @@ Grows-so-often w = (n : ℕ) (vs : List (List ℕ)) → Fresh w n vs → length 
 
 -- what is kept fits as rows in their form, one for each place at most
 abbrev pub Fits-as-rows : ℕ → List (List ℕ) → Type 0
-Fits-as-rows w gs = (p : Program) (n : ℕ) → Given w gs p → (rs : List (List ℕ)) × Kept w gs p n rs × Best (Span w (suc (p .words)) rs) rs × (length rs ≤ suc (p .words))
+Fits-as-rows w gs = (p : Program) (n : ℕ) → Given w gs p
+    → (rs : List (List ℕ)) × Kept w gs p n rs × Best (Span w (suc (p .words)) rs) rs × (length rs ≤ suc (p .words))
 
 -- rows through a step make every state that the step makes of a sum of them, and are sums of such only
 abbrev pub Step-makes : ℕ → Type 0
-Step-makes w = (k : ℕ) (d : Action) (rs : List (List ℕ)) (s u : State) → Each (Fit w (suc k)) rs → Fit w k s → Span w (suc k) rs (1 ∷ s) → Makes w d s u → Span w (suc k) (taken w k d rs) (1 ∷ u)
+Step-makes w = (k : ℕ) (d : Action) (rs : List (List ℕ)) (s u : State) → Each (Fit w (suc k)) rs → Fit w k s → Span w (suc k) rs (1 ∷ s)
+    → Makes w d s u → Span w (suc k) (taken w k d rs) (1 ∷ u)
 
 abbrev pub Step-made : ℕ → Type 0
-Step-made w = (k : ℕ) (d : Action) (rs : List (List ℕ)) (ss : List State) → Each (Fit w (suc k)) (ones ss) → Each (Span w (suc k) (ones ss)) rs → Each (λ (r : List ℕ). (us : List State) × AllMade w d ss us × Span w (suc k) (ones us) r) (taken w k d rs)
+Step-made w = (k : ℕ) (d : Action) (rs : List (List ℕ)) (ss : List State) → Each (Fit w (suc k)) (ones ss)
+    → Each (Span w (suc k) (ones ss)) rs
+    → Each (λ (r : List ℕ). (us : List State) × AllMade w d ss us × Span w (suc k) (ones us) r) (taken w k d rs)
 
 -- a row with a step put in comes to what the row comes to behind the step
 abbrev pub Adjoint : ℕ → Type 0

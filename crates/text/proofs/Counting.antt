@@ -52,7 +52,8 @@ module _ (xs : List ℕ) (i line column : ℕ) (lt : i < length xs) (h : Counted
       }
 
 -- `front` is the part of the text before `at`, as the checker reads it
-pub counted-all : (text : List ℕ) (at least i line column : ℕ) → least ≡ min at (length text) → length (take (least - 0) text) ≤ i → Counted (take (least - 0) text) i line column → record { line = line; column = column } ≡ placeOf (take at text)
+pub counted-all : (text : List ℕ) (at least i line column : ℕ) → least ≡ min at (length text) → length (take (least - 0) text) ≤ i
+    → Counted (take (least - 0) text) i line column → record { line = line; column = column } ≡ placeOf (take at text)
 counted-all text at least i line column e ge h =
     let z : least - 0 ≡ min at (length text) = omega arith in
     let front : take i (take (least - 0) text) ≡ take at text = take-all i _ ge ∙ ap (λ k. take k text) z ∙ take-min at text in

@@ -26,7 +26,8 @@ pub record Holds (m : Meaning) (was : List ℕ) (count : ℕ) (out : List ℕ) (
   pub rest : drop count out ≡ drop count was
 
 -- a number that ends, where there is room
-stored-more : (m : Meaning) (was out : List ℕ) (count value : ℕ) (left : Meaning) → count < length was → Holds m was count out (after (value ∷ []) left) → Holds m was (count + 1) (set out count value) left
+stored-more : (m : Meaning) (was out : List ℕ) (count value : ℕ) (left : Meaning) → count < length was
+    → Holds m was count out (after (value ∷ []) left) → Holds m was (count + 1) (set out count value) left
 stored-more m was out count value left room h =
     let inside : count < length out = omega (arith, h .len) in
     let front = append-assoc (take count out) (value ∷ []) (left .numbers) in

@@ -48,16 +48,19 @@ module _ (xs : List ℕ) (i : ℕ) (inside r : Bool) (lt : i < length xs) (is : 
       let to = ap (λ t. length (tokensFrom t (drop (i + 1) xs))) same in
       (omega (arith, one, to, h .0), omega (arith, h .1))
 
-  pub nth-begin : (n left : ℕ) (name : List ℕ) → r ≡ false → inside ≡ false → left ≡ 0 → name ≡ word (drop i xs) → nth (tokensFrom inside (drop i xs)) left ≡ nth (tokens xs) n → Some name ≡ nth (tokens xs) n
+  pub nth-begin : (n left : ℕ) (name : List ℕ) → r ≡ false → inside ≡ false → left ≡ 0 → name ≡ word (drop i xs)
+      → nth (tokensFrom inside (drop i xs)) left ≡ nth (tokens xs) n → Some name ≡ nth (tokens xs) n
   nth-begin n left name e f none is-word h =
       ap Some is-word ∙ sym (ap (λ k. nth (word (drop i xs) ∷ behind) k) none) ∙ ap (λ ts. nth ts left) (sym (tokens-begin e f)) ∙ h
 
-  pub nth-later : (left after : ℕ) (next : Bool) (o : Option (List ℕ)) → r ≡ false → inside ≡ false → (left ≡ 0 → ⊥) → after ≡ left - 1 → next ≡ not r → nth (tokensFrom inside (drop i xs)) left ≡ o → nth (tokensFrom next (drop (i + 1) xs)) after ≡ o
+  pub nth-later : (left after : ℕ) (next : Bool) (o : Option (List ℕ)) → r ≡ false → inside ≡ false → (left ≡ 0 → ⊥) → after ≡ left - 1 → next ≡ not r
+      → nth (tokensFrom inside (drop i xs)) left ≡ o → nth (tokensFrom next (drop (i + 1) xs)) after ≡ o
   nth-later left after next o e f some less same h =
       let one : left ≡ suc after = omega arith in
       ap (λ t. nth (tokensFrom t (drop (i + 1) xs)) after) same ∙ sym (ap (λ ts. nth ts left) (tokens-begin e f) ∙ ap (λ k. nth (word (drop i xs) ∷ behind) k) one) ∙ h
 
-  pub nth-pass : (left after : ℕ) (next : Bool) (o : Option (List ℕ)) → ((r ≡ false) × (inside ≡ true)) ⊎ (r ≡ true) → after ≡ left → next ≡ not r → nth (tokensFrom inside (drop i xs)) left ≡ o → nth (tokensFrom next (drop (i + 1) xs)) after ≡ o
+  pub nth-pass : (left after : ℕ) (next : Bool) (o : Option (List ℕ)) → ((r ≡ false) × (inside ≡ true)) ⊎ (r ≡ true) → after ≡ left → next ≡ not r
+      → nth (tokensFrom inside (drop i xs)) left ≡ o → nth (tokensFrom next (drop (i + 1) xs)) after ≡ o
   nth-pass left after next o e still same h =
       ap (λ t. nth (tokensFrom t (drop (i + 1) xs)) after) same ∙ ap (nth behind) still ∙ ap (λ ts. nth ts left) (sym (tokens-pass e)) ∙ h
 
