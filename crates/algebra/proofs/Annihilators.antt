@@ -21,7 +21,7 @@ use Rattle.algebra.specs.Vec.{neg, below, plus, times, less, dot, sum, snoc, f
 use Rattle.algebra.specs.Rows.{Row, here, there, Best}
 use Rattle.algebra.specs.Span.{Fit, Closed, Span, Each, Ann}
 use Rattle.algebra.specs.Form.{slot, Form, WellFormed, no-slots, slot-on, In, Howell, nothing, grow}
-use Rattle.algebra.specs.Tell.{extra, Annihilates, annihilator, howell-rows}
+use Rattle.algebra.specs.Tell.{extra, tell, Annihilates, annihilator, howell-rows}
 
 -- the place of a slot in what comes to 0: a multiple of the pivot
 place : (w : ℕ) {n : ℕ} (e : ℕ) {t : List ℕ} {f : Form} → e ≤ w → Fit w n t → WellFormed w n f → (x : ℕ) (u : List ℕ) → Fit w n u
@@ -105,6 +105,28 @@ sum-killed w n c (k ∷ ks) (r ∷ rs) (row-on s z) e =
 
 pub span-killed : (w n : ℕ) (c : List ℕ) (rs : List (List ℕ)) (v : List ℕ) → Sized n rs → Each (λ (r : List ℕ). dot w c r ≡ 0) rs → Span w n rs v → dot w c v ≡ 0
 span-killed w n c rs v z e s = ap (dot w c) (sym (s .gives)) ∙ sum-killed w n c (s .weights) rs z e
+
+-- what annihilates a form is closed under sums, so each is a sum of the rows told; what these annihilate, all do
+annihilates-closed : (w n : ℕ) (f : Form) → Closed w n (Annihilates w n f)
+annihilates-closed w n f = record { sums = sums; sized = λ c a. a .fits .sized; small = λ c a. a .fits .small }
+  where
+    sums : (k : ℕ) (c d : List ℕ) → Annihilates w n f c → Annihilates w n f d → Annihilates w n f (plus w c (times w k d))
+    sums k c d a b = record { fits = fit-plus w k (a .fits) (b .fits); kills = λ v fv i. dot-comm w (plus w c (times w k d)) (flip v) ∙ dot-less w (flip v) k c d (a .fits) (b .fits) ∙ both v fv i }
+      where
+        both : (v : List ℕ) → Fit w n v → In w f v → (dot w (flip v) c + (k * dot w (flip v) d) % 2 ^ w) % 2 ^ w ≡ 0
+        both v fv i = rw (dot-comm w (flip v) c, a .kills v fv i, dot-comm w (flip v) d, b .kills v fv i) (simp mods (by-zero w _ 0 (omega arith)))
+
+pub told-enough : (w : ℕ) {n : ℕ} {f : Form} → WellFormed w n f → Howell w f → (v : List ℕ) → Fit w n v → Each (λ (c : List ℕ). dot w c (flip v) ≡ 0) (tell w f) → In w f v
+told-enough w {n} {f} fine h v fv come = double w fine h v fv (λ c a. dot-comm w c (flip v) ∙ span-killed w n (flip v) (tell w f) c sized kills (all-spanned w n (Annihilates w n f) (annihilates-closed w n f) (tell w f) best c a))
+  where
+    best : Best (Annihilates w n f) (tell w f)
+    best = best-tell w fine h
+
+    sized : Sized n (tell w f)
+    sized = sized-each w n (tell w f) (each-row (Fit w n) (tell w f) (λ r i k. best .members r i k .fits))
+
+    kills : Each (λ (c : List ℕ). dot w (flip v) c ≡ 0) (tell w f)
+    kills = each-to (λ (c : List ℕ). dot w c (flip v) ≡ 0) (λ (c : List ℕ). dot w (flip v) c ≡ 0) (λ c e. dot-comm w (flip v) c ∙ e) (tell w f) come
 
 -- for any rows
 module _ (w n : ℕ) (rs : List (List ℕ)) (fits : Each (Fit w n) rs) where

@@ -5,7 +5,7 @@ use Rattle.algebra.proofs.Insert.{fine-insert, weight-insert}
 use Rattle.algebra.proofs.FormSpans.{span-insert, howell-insert}
 use Rattle.algebra.proofs.Insertions.{weight-fine, made-fine, made-howell}
 use Rattle.algebra.proofs.Tell.{best-tell}
-use Rattle.algebra.proofs.Annihilators.{double, best-annihilator, ann-ann, best-howell}
+use Rattle.algebra.proofs.Annihilators.{double, told-enough, best-annihilator, ann-ann, best-howell}
 use Rattle.algebra.proofs.Maps.{made-spans, span-closed, length-annihilator, length-howell}
 use Rattle.algebra.proofs.Growth.{grows-so-often}
 use Rattle.algebra.proofs.System.{forms, forms-fine, forms-howell, forms-exact, forms-starts, forms-closed, forms-least}
@@ -26,6 +26,7 @@ inserting = record {
 annihilating : Annihilating
 annihilating = record {
   told = λ w n f well h. best-tell w well h;
+  enough = λ w n f well h. told-enough w well h;
   double = λ w n f well h. double w well h;
   best = best-annihilator;
   twice = ann-ann;

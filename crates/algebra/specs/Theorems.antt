@@ -41,7 +41,10 @@ pub record Inserting : Type 0 where
 pub record Annihilating : Type 0 where
   -- the rows told are the best rows of all that annihilates a form
   pub told : (w n : ℕ) (f : Form) → WellFormed w n f → Howell w f → Best (Annihilates w n f) (tell w f)
-  -- and what comes to 0 with all of them is in the form's span
+  -- what comes to 0 with the rows told is in the form's span
+  pub enough : (w n : ℕ) (f : Form) → WellFormed w n f → Howell w f → (v : List ℕ) → Fit w n v
+      → Each (λ (c : List ℕ). dot w c (flip v) ≡ 0) (tell w f) → In w f v
+  -- so what comes to 0 with all that annihilates the form is
   pub double : (w n : ℕ) (f : Form) → WellFormed w n f → Howell w f → (v : List ℕ) → Fit w n v
       → ((c : List ℕ) → Annihilates w n f c → dot w c (flip v) ≡ 0) → In w f v
   -- the same of any rows
