@@ -19,7 +19,7 @@ mul-all-mod : (w c p x y : ℕ) → c * p ≡ 2 ^ w → (x * (y % 2 ^ w)) % p �
 mul-all-mod w c p x y h = sym (mul-mod-mod x (y % 2 ^ w) p) ∙ ap (λ (z : ℕ). (x * z) % p) (mod-all-mod w c p y h) ∙ mul-mod-mod x y p
 
 -- from digits right below p to digits right below q, where q divides p * p
-newton-step : (w c d p q u a : ℕ) → c * q ≡ 2 ^ w → d * q ≡ p * p → (u * a) % p ≡ 1 → (u * newton w u a) % q ≡ 1 % q
+pub newton-step : (w c d p q u a : ℕ) → c * q ≡ 2 ^ w → d * q ≡ p * p → (u * a) % p ≡ 1 → (u * newton w u a) % q ≡ 1 % q
 unfolding newton
 newton-step w c d p q u a h g o =
     mul-all-mod w c q u (a * (b % 2 ^ w)) h ∙ ap (λ (x : ℕ). x % q) regroup ∙ mul-all-mod w c q (u * a) b h ∙ ap (λ (x : ℕ). x % q) (ring (u * a) is) ∙ add-mul-mod-self-left 1 q (c * (1 + 2 * (p * e)) + neg w * (d * (e * e)))

@@ -1,0 +1,56 @@
+-- words that are all 0 are the form that spans 0 only
+use mathlib.Core.Path.{_≡_, refl, sym, ap, ap₂, _∙_, subst}
+use mathlib.Core.List.{List, _∷_}
+use Prim.Native.Nat.{ℕ, zero, suc, _+_, _*_, _-_, _≤_}
+use native.Mathlib.Omega.{arith}
+use borrow.Rule.Slice.PartMut.{putMid}
+use lib.ListN.{length, take, drop, getD, replicate}
+use lib.Count.{trailingZeros, trailing-of-zero}
+use Rattle.std.proofs.shelf.Lists.{length-replicate, take-replicate, drop-replicate}
+use Rattle.std.proofs.shelf.Parts.{between-putMid, take-putMid-below, drop-putMid}
+use Rattle.algebra.specs.Vec.{flip}
+use Rattle.algebra.specs.Form.{Slot, slot, Form, nothing, Howell, In}
+use Rattle.algebra.proofs.LastPlace.{flip-zero, flip-flip, fit-flip}
+use Rattle.algebra.proofs.FormSpans.{howell-nothing, in-nothing}
+use Rattle.forms.specs.Flat.{part, read, table-at, form-at}
+use Rattle.forms.specs.Clearing.{ClearedAt}
+use Rattle.forms.proofs.Reading.{row-before}
+
+zero-at : (m i : ℕ) → getD {A = ℕ} (replicate m 0) i 0 ≡ 0
+zero-at zero i = refl
+zero-at (suc m) zero = refl
+zero-at (suc m) (suc i) = zero-at m i
+
+part-zeros : (a k m : ℕ) → a + k ≤ m → part a (a + k) (replicate m 0) ≡ replicate k 0
+part-zeros a k m h = ap (take (a + k - a)) (drop-replicate a m 0) ∙ take-replicate (a + k - a) (m - a) 0 (omega arith) ∙ ap {A = ℕ} {B = List ℕ} (λ (z : ℕ). replicate z 0) (let e : a + k - a ≡ k = omega arith in e)
+
+read-zeros : (w n k : ℕ) → k ≤ n → read w n k (replicate (n * n) 0) ≡ nothing w k
+unfolding read
+read-zeros w n zero h = refl
+read-zeros w n (suc k) h =
+    ap₂ {A = Slot} {B = Form} {C = Form} (λ (x : Slot) (y : Form). x ∷ y)
+    (ap₂ {A = ℕ} {B = List ℕ} {C = Slot} slot (ap (trailingZeros w) (zero-at (n * n) (k * n + k)) ∙ trailing-of-zero w) (ap flip (part-zeros (k * n) k (n * n) (let b = row-before n k n h in omega arith)) ∙ flip-zero k))
+    (read-zeros w n k (omega arith))
+
+pub cleared-at : (n at size : ℕ) (s t : List ℕ) → size ≡ n * n → at + size ≤ length s → t ≡ replicate (at + size - at) 0 → ClearedAt n at s (putMid at (at + size - at) s t)
+cleared-at n at size s t is room zeros = subst (λ (z : ℕ). ClearedAt n at s (putMid at (at + z - at) s t)) (sym is) (record {
+  room = omega arith;
+  words = words;
+  form = form;
+  howell = subst (Howell 32) (sym form) (howell-nothing 32 n);
+  spans = λ u fu i. sym (flip-flip u) ∙ ap flip (in-nothing 32 n (flip u) (fit-flip 32 fu) (subst (λ (f : Form). In 32 f (flip u)) form i)) ∙ flip-zero n;
+  before = take-putMid-below at (at + n * n - at) s t at (omega arith) (omega arith);
+  behind = drop-putMid at (at + n * n - at) s t (at + n * n) (omega arith) (omega arith) (omega (arith, len));
+})
+  where
+    t-is : t ≡ replicate (n * n) 0
+    t-is = zeros ∙ ap {A = ℕ} {B = List ℕ} (λ (z : ℕ). replicate z 0) (let e : at + size - at ≡ n * n = omega arith in e)
+
+    len : length t ≡ n * n
+    len = ap length t-is ∙ length-replicate (n * n) 0
+
+    words : table-at n at (putMid at (at + n * n - at) s t) ≡ replicate (n * n) 0
+    words = between-putMid at (at + n * n - at) s t (at + n * n) (omega arith) (omega (arith, len)) ∙ t-is
+
+    form : form-at 32 n at (putMid at (at + n * n - at) s t) ≡ nothing 32 n
+    form = ap (read 32 n n) words ∙ read-zeros 32 n n (omega arith)

@@ -1,0 +1,10 @@
+pub mod Inverses
+pub mod RowSums
+pub mod Cancels
+pub mod Reading
+pub mod Clearing
+pub mod Turns
+pub mod Inserts
+pub mod Grown
+pub mod Telling
+pub mod TableLaws
