@@ -6,14 +6,15 @@ use mathlib.Core.List.{List, [], _∷_, _++_, append-assoc}
 use Prim.Native.Nat.{ℕ, zero, suc, _+_, _*_, _-_, _^_, _<_, _≤_}
 use native.Mathlib.Nat.{add-zero, sub-self}
 use native.Mathlib.Omega.{arith}
-use lib.ListN.{length, take, drop, getD, set}
+use lib.ListN.{length, take, getD, set}
+use lib.Count.{trailingZeros}
 use Rattle.std.proofs.shelf.Lists.{getD-set-same, getD-set-other, take-all, append-nil}
-use Rattle.std.proofs.shelf.Tests.{cases-lt, cases-eq}
+use Rattle.std.proofs.shelf.Tests.{cases-lt, cases-eq, cases-order}
 use Rattle.algebra.specs.Vec.{flip}
 use Rattle.algebra.specs.Form.{Slot, Form, insert, weight}
 use Rattle.forms.specs.Flat.{row-at, exponent-at, slot-at, read}
 use Rattle.forms.specs.Insertion.{Turned, Changed, Inserted}
-use Rattle.forms.proofs.Reading.{row-before, part-same, exponent-same, slot-same, read-same, slots, slots-same, slots-more, slots-read, weight-falls}
+use Rattle.forms.proofs.Reading.{row-before, part-same, row-word, exponent-same, slot-same, read-same, slots, slots-same, slots-more, slots-read, weight-falls}
 use Rattle.forms.proofs.Turns.{insert-zero}
 
 -- the places from k on are done: t is the table and u the row that is left
@@ -33,7 +34,9 @@ inserting-none w n s v os e small-s small-v = record {
     within = λ j h. absurd (omega arith);
     down = λ i j h l. absurd (omega arith);
     fell = λ j h. absurd (omega arith);
+    powers = λ j h. absurd (omega arith);
     kept = λ q h none. refl;
+    tails = λ q i h l. refl;
     behind = λ j h. refl;
     sum = omega arith;
   };
@@ -93,8 +96,20 @@ module _ (w n : ℕ) (s v t os ps : List ℕ) (count : ℕ) (room : length t ≡
       | inr l ↦ (let d = row-before n k q (omega (arith, ne)) in turned .others j (inr (omega arith)))
     ])
 
+    tail : (q i : ℕ) → q < i → i < n → getD t′ (q * n + i) 0 ≡ getD t (q * n + i) 0
+    tail q i l b = elim (cases-order q k) [
+      | inl is ↦ (let d : q * n ≡ k * n = ap (λ (z : ℕ). z * n) is in turned .others (q * n + i) (inr (omega arith)))
+      | inr o ↦ elim o [
+        | inl a ↦ (let d = row-before n q k a in turned .others (q * n + i) (inl (omega arith)))
+        | inr a ↦ (let d = row-before n k q a in turned .others (q * n + i) (inr (omega arith)))
+      ]
+    ]
+
     form : insert w (read w n n s) (flip v) ≡ slots w n k (n - k) t′ ++ insert w (read w n k t′) (flip (take k u′))
     form = g .form ∙ form-down w n k place t t′ u u′ (turned .step (read w n k t)) (λ q a b. slot-same w n q t t′ (sym len) a (sym (row-kept q b)))
+
+    pivot-same : (q : ℕ) → q < n → q ≢ k → getD t′ (q * n + q) 0 ≡ getD t (q * n + q) 0
+    pivot-same q h ne = row-word n q q t′ t h (row-kept q ne)
 
     -- the row of the table stays
     pub inserting-same : r ≡ false → Inserting w n k s v t′ u′ os ps count
@@ -132,6 +147,12 @@ module _ (w n : ℕ) (s v t os ps : List ℕ) (count : ℕ) (room : length t ≡
         | inr ne ↦ subst (λ (x : ℕ). exponent-at w n x t′ < exponent-at w n x s) (sym (other j ne)) (let lt : j < count = omega (arith, ne) in let f = g .changed .fell j lt in let a = g .above j lt in let d = exponent-same w n (getD ps j 0) t′ t (g .changed .within j lt) (row-kept (getD ps j 0) (λ is. omega arith)) in omega arith)
       ]
 
+      powers : (j : ℕ) → j < count + 1 → getD t′ (getD (set ps count k) j 0 * n + getD (set ps count k) j 0) 0 ≡ 2 ^ exponent-at w n (getD (set ps count k) j 0) t′
+      powers j b = elim (cases-eq j count) [
+        | inl is ↦ subst (λ (x : ℕ). getD t′ (x * n + x) 0 ≡ 2 ^ exponent-at w n x t′) (sym (ap (λ (x : ℕ). getD (set ps count k) x 0) is ∙ here)) (turned .power e)
+        | inr ne ↦ subst (λ (x : ℕ). getD t′ (x * n + x) 0 ≡ 2 ^ exponent-at w n x t′) (sym (other j ne)) (let lt : j < count = omega (arith, ne) in let p = pivot-same (getD ps j 0) (g .changed .within j lt) (let a = g .above j lt in λ is. omega arith) in p ∙ g .changed .powers j lt ∙ ap (λ (x : ℕ). 2 ^ trailingZeros w x) (sym p))
+      ]
+
       kept : (q : ℕ) → q < n → ((j : ℕ) → j < count + 1 → getD (set ps count k) j 0 ≡ q → ⊥) → row-at n q t′ ≡ row-at n q s
       kept q b none = row-kept q (λ is. none count (omega arith) (here ∙ sym is)) ∙ g .changed .kept q b (λ j l is. none j (omega arith) (other j (λ x. omega arith) ∙ is))
 
@@ -143,7 +164,9 @@ module _ (w n : ℕ) (s v t os ps : List ℕ) (count : ℕ) (room : length t ≡
           within = within;
           down = down;
           fell = fell;
+          powers = powers;
           kept = kept;
+          tails = λ q i l b. tail q i l b ∙ g .changed .tails q i l b;
           behind = λ j b. other j (λ is. omega arith) ∙ g .changed .behind j (omega arith);
           sum =
               let f = turned .falls e in

@@ -30,7 +30,7 @@ pub part-same : (a b : ℕ) (s t : List ℕ) → length s ≡ length t → ((j :
 part-same a b s t e h = ext-getD 0 (part a b s) (part a b t) (search (needs, places)) (λ i l. let k : length (part a b s) ≤ b - a = search (needs, places) in getD-part a b s i (omega arith) ∙ h (a + i) (omega arith) (omega arith) ∙ sym (getD-part a b t i (omega arith)))
 
 -- a row that is as it was has its slot as it was
-row-word : (n q i : ℕ) (s t : List ℕ) → i < n → row-at n q s ≡ row-at n q t → getD s (q * n + i) 0 ≡ getD t (q * n + i) 0
+pub row-word : (n q i : ℕ) (s t : List ℕ) → i < n → row-at n q s ≡ row-at n q t → getD s (q * n + i) 0 ≡ getD t (q * n + i) 0
 row-word n q i s t h e = sym (getD-part (q * n) (q * n + n) s i (omega arith)) ∙ ap (λ (z : List ℕ). getD z i 0) e ∙ getD-part (q * n) (q * n + n) t i (omega arith)
 
 pub exponent-same : (w n q : ℕ) (s t : List ℕ) → q < n → row-at n q s ≡ row-at n q t → exponent-at w n q s ≡ exponent-at w n q t

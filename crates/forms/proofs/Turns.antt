@@ -4,16 +4,16 @@ use mathlib.Core.Logic.{_≢_, _⊎_, inl, inr}
 use mathlib.Core.Bool.{Bool, true, false}
 use mathlib.Core.List.{List, [], _∷_, _++_}
 use Prim.Native.Nat.{ℕ, zero, suc, _+_, _*_, _-_, _/_, _%_, _^_, _<_, _≤_}
-use native.Mathlib.Nat.{le-of-suc-le-suc, zero-div, sub-zero, zero-add}
+use native.Mathlib.Nat.{le-of-suc-le-suc, zero-div, sub-zero, zero-add, mod-eq-of-lt}
 use native.Mathlib.Omega.{arith}
 use borrow.Author.Needs.{needs}
 use borrow.Rule.Slice.PartMut.{putMid}
 use lib.ListN.{length, take, drop, getD, set}
 use lib.Count.{trailingZeros, trailing-le, trailing-of-zero}
-use lib.Dec.{T}
+use lib.Pow.{pow-lt}
 use Rattle.std.proofs.shelf.Lists.{places, same-lists, getD-set-same, getD-set-other, length-set, take-at, take-set, take-set-le, length-take-le, getD-take}
 use Rattle.std.proofs.shelf.Parts.{between-is, between-putMid}
-use Rattle.algebra.specs.Vec.{neg, below, plus, times, less, snoc, flip}
+use Rattle.algebra.specs.Vec.{neg, plus, times, less, snoc, flip}
 use Rattle.algebra.specs.Span.{Fit}
 use Rattle.algebra.specs.Inverse.{inverse}
 use Rattle.algebra.specs.Form.{Slot, slot, Form, insert}
@@ -79,6 +79,7 @@ module _ (w n k : ℕ) (s v : List ℕ) (room : k * n + n ≤ length s) (sized :
         ∙ ap (λ (a : List ℕ). slot-at w n k s ∷ insert w f a) (flip-less w (getD v k 0 / 2 ^ exponent-at w n k s) (take k v) (entries-at n k s) (len-row ∙ sym len-entries) ∙ ap flip (sym z-is ∙ sym (take-put k v z len-z)));
     others = λ j h. refl;
     falls = λ h. absurd (let a : _≡_ {A = ℕ} 0 1 = cc in omega arith);
+    power = λ h. absurd (let a : _≡_ {A = ℕ} 0 1 = cc in omega arith);
     same = λ h. refl;
   }
     where
@@ -101,6 +102,7 @@ module _ (w n k : ℕ) (s v : List ℕ) (room : k * n + n ≤ length s) (sized :
         ∙ ap₂ {A = Slot} {B = Form} {C = Form} (λ (a : Slot) (b : Form). a ∷ b) slot-is (ap (insert w f) (flip-less w (2 ^ (e - i)) (entries-at n k s) u (len-entries ∙ sym len-u) ∙ ap flip (sym z-is ∙ sym (take-put k v z len-z))));
     others = written-other (k * n) (k * n + k) y u s (omega arith) (omega arith) len;
     falls = λ h. omega (arith, zeros);
+    power = λ h. here ∙ yis ∙ mod-eq-of-lt (pow-lt {i = i} {j = w} (omega (arith, trailing-le w (getD s (k * n + k) 0)))) ∙ ap (λ (a : ℕ). 2 ^ a) (sym zeros);
     same = λ h. absurd (let a : _≡_ {A = ℕ} 0 1 = cc in omega arith);
   }
     where

@@ -3,7 +3,7 @@ use mathlib.Core.Path.{_≡_}
 use mathlib.Core.Logic.{_⊎_, _↔_}
 use mathlib.Core.Bool.{Bool, true, false}
 use mathlib.Core.List.{List, _∷_}
-use Prim.Native.Nat.{ℕ, suc, _+_, _*_, _<_, _≤_}
+use Prim.Native.Nat.{ℕ, suc, _+_, _*_, _^_, _<_, _≤_}
 use lib.ListN.{length, getD, take, drop, replicate}
 use Rattle.std.specs.declared.option.Option.{Option}
 use Rattle.std.specs.declared.option.Option.the-variants.{Some, None}
@@ -21,6 +21,7 @@ pub record Turned (w n k : ℕ) (s t v u : List ℕ) (changed : Bool) : Type 0 w
   pub step : (f : Form) → insert w (slot-at w n k s ∷ f) (flip (take (suc k) v)) ≡ slot-at w n k t ∷ insert w f (flip (take k u))
   pub others : (j : ℕ) → (j < k * n) ⊎ (k * n + k < j) → getD t j 0 ≡ getD s j 0
   pub falls : changed ≡ true → exponent-at w n k t < exponent-at w n k s
+  pub power : changed ≡ true → getD t (k * n + k) 0 ≡ 2 ^ exponent-at w n k t
   pub same : changed ≡ false → t ≡ s
 
 -- the rows of the table s that are told as changed in the table t: `count` places, first in the list `ps`, which was `os`
@@ -28,10 +29,12 @@ pub record Changed (w n : ℕ) (s t os ps : List ℕ) (count : ℕ) : Type 0 whe
   pub few : count ≤ n
   pub within : (j : ℕ) → j < count → getD ps j 0 < n
   pub down : (i j : ℕ) → i < j → j < count → getD ps j 0 < getD ps i 0
-  -- the exponent of each of them fell
+  -- the exponent of each of them fell, and its pivot is a power of two
   pub fell : (j : ℕ) → j < count → exponent-at w n (getD ps j 0) t < exponent-at w n (getD ps j 0) s
-  -- all other rows are as they were, and so is the list behind the places
+  pub powers : (j : ℕ) → j < count → getD t (getD ps j 0 * n + getD ps j 0) 0 ≡ 2 ^ exponent-at w n (getD ps j 0) t
+  -- all other rows are as they were, and so is what stands behind the pivots, and the list behind the places
   pub kept : (q : ℕ) → q < n → ((j : ℕ) → j < count → getD ps j 0 ≡ q → ⊥) → row-at n q t ≡ row-at n q s
+  pub tails : (q i : ℕ) → q < i → i < n → getD t (q * n + i) 0 ≡ getD s (q * n + i) 0
   pub behind : (j : ℕ) → count ≤ j → getD ps j 0 ≡ getD os j 0
   -- so the sum of the exponents falls by as much as rows are told, or more
   pub sum : weight (read w n n t) + count ≤ weight (read w n n s)
