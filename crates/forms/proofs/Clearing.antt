@@ -32,8 +32,8 @@ read-zeros w n (suc k) h =
     (ap₂ {A = ℕ} {B = List ℕ} {C = Slot} slot (ap (trailingZeros w) (zero-at (n * n) (k * n + k)) ∙ trailing-of-zero w) (ap flip (part-zeros (k * n) k (n * n) (let b = row-before n k n h in omega arith)) ∙ flip-zero k))
     (read-zeros w n k (omega arith))
 
-pub cleared-at : (n at size : ℕ) (s t : List ℕ) → size ≡ n * n → at + size ≤ length s → t ≡ replicate (at + size - at) 0 → ClearedAt n at s (putMid at (at + size - at) s t)
-cleared-at n at size s t is room zeros = subst (λ (z : ℕ). ClearedAt n at s (putMid at (at + z - at) s t)) (sym is) (record {
+pub cleared-at : (n at end : ℕ) (s t : List ℕ) → end ≡ at + n * n → end ≤ length s → t ≡ replicate (end - at) 0 → ClearedAt n at s (putMid at (end - at) s t)
+cleared-at n at end s t is room zeros = subst (λ (z : ℕ). ClearedAt n at s (putMid at (z - at) s t)) (sym is) (record {
   room = omega arith;
   words = words;
   form = form;
@@ -44,7 +44,7 @@ cleared-at n at size s t is room zeros = subst (λ (z : ℕ). ClearedAt n at s (
 })
   where
     t-is : t ≡ replicate (n * n) 0
-    t-is = zeros ∙ ap {A = ℕ} {B = List ℕ} (λ (z : ℕ). replicate z 0) (let e : at + size - at ≡ n * n = omega arith in e)
+    t-is = zeros ∙ ap {A = ℕ} {B = List ℕ} (λ (z : ℕ). replicate z 0) (let e : end - at ≡ n * n = omega arith in e)
 
     len : length t ≡ n * n
     len = ap length t-is ∙ length-replicate (n * n) 0

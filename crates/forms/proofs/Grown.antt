@@ -59,10 +59,10 @@ module _ (n at : ℕ) (s t v os ps : List ℕ) (count : ℕ) (room : at + n * n 
       well : WellFormed 32 n (form-at 32 n at s)
       well = fine-form 32 n at s room small-s
 
--- where the code has n * n under a name
-pub inserted-part : (n at size : ℕ) (s t v os ps : List ℕ) (count : ℕ) → size ≡ n * n → at + size ≤ length s → n ≤ length os → length v ≡ n → length t ≡ size
-    → ((i : ℕ) → getD s i 0 < 4294967296) → ((i : ℕ) → getD v i 0 < 4294967296) → Inserted 32 n (part at (at + size) s) v t os ps count
-    → InsertedAt n at s (putMid at (at + size - at) s t) v os ps count
-inserted-part n at size s t v os ps count is room list len-v len-t small-s small-v g =
-    subst (λ (z : ℕ). InsertedAt n at s (putMid at (at + z - at) s t) v os ps count) (sym is)
-    (inserted-at n at s t v os ps count (omega arith) list len-v (omega arith) small-s small-v (subst (λ (z : ℕ). Inserted 32 n (part at (at + z) s) v t os ps count) is g))
+-- where the code has the end of the table under a name
+pub inserted-part : (n at end : ℕ) (s t v os ps : List ℕ) (count : ℕ) → end ≡ at + n * n → end ≤ length s → n ≤ length os → length v ≡ n → length t ≡ end - at
+    → ((i : ℕ) → getD s i 0 < 4294967296) → ((i : ℕ) → getD v i 0 < 4294967296) → Inserted 32 n (part at end s) v t os ps count
+    → InsertedAt n at s (putMid at (end - at) s t) v os ps count
+inserted-part n at end s t v os ps count is room list len-v len-t small-s small-v g =
+    subst (λ (z : ℕ). InsertedAt n at s (putMid at (z - at) s t) v os ps count) (sym is)
+    (inserted-at n at s t v os ps count (omega arith) list len-v (omega arith) small-s small-v (subst (λ (z : ℕ). Inserted 32 n (part at z s) v t os ps count) is g))

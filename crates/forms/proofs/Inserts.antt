@@ -9,12 +9,12 @@ use native.Mathlib.Omega.{arith}
 use lib.ListN.{length, take, getD, set}
 use lib.Count.{trailingZeros}
 use Rattle.std.proofs.shelf.Lists.{getD-set-same, getD-set-other, take-all, append-nil}
-use Rattle.std.proofs.shelf.Tests.{cases-lt, cases-eq, cases-order}
+use Rattle.std.proofs.shelf.Tests.{cases-eq}
 use Rattle.algebra.specs.Vec.{flip}
 use Rattle.algebra.specs.Form.{Slot, Form, insert, weight}
-use Rattle.forms.specs.Flat.{row-at, exponent-at, slot-at, read}
+use Rattle.forms.specs.Flat.{row-at, word-at, pivot-at, exponent-at, slot-at, read}
 use Rattle.forms.specs.Insertion.{Turned, Changed, Inserted}
-use Rattle.forms.proofs.Reading.{row-before, part-same, row-word, exponent-same, slot-same, read-same, slots, slots-same, slots-more, slots-read, weight-falls}
+use Rattle.forms.proofs.Reading.{row-before, row-word, exponent-same, slot-same, read-same, slots, slots-same, slots-more, slots-read, weight-falls}
 use Rattle.forms.proofs.Turns.{insert-zero}
 
 -- the places from k on are done: t is the table and u the row that is left
@@ -28,7 +28,9 @@ pub record Inserting (w n k : ℕ) (s v t u os ps : List ℕ) (count : ℕ) : Ty
 pub inserting-none : (w n : ℕ) (s v os : List ℕ) → length v ≡ n → ((i : ℕ) → getD s i 0 < 2 ^ w) → ((i : ℕ) → getD v i 0 < 2 ^ w) → Inserting w n n s v s v os os 0
 unfolding slots
 inserting-none w n s v os e small-s small-v = record {
-  form = ap (insert w (read w n n s)) (ap flip (sym (take-all n v (omega arith)))) ∙ ap {A = ℕ} {B = Form} (λ (m : ℕ). slots w n n m s ++ insert w (read w n n s) (flip (take n v))) (sym (sub-self n));
+  form =
+      ap (insert w (read w n n s)) (ap flip (sym (take-all n v (omega arith))))
+      ∙ ap {A = ℕ} {B = Form} (λ (m : ℕ). slots w n n m s ++ insert w (read w n n s) (flip (take n v))) (sym (sub-self n));
   changed = record {
     few = omega arith;
     within = λ j h. absurd (omega arith);
@@ -71,7 +73,7 @@ module _ (w n : ℕ) (s v t os ps : List ℕ) (count : ℕ) (room : length t ≡
       → ((j : ℕ) → k ≤ j → j < m + k → getD u j 0 ≡ 0) → Inserting w n (m + k) s v t u os ps count → Inserting w n k s v t u os ps count
   passed-over k zero u len h z g = subst (λ (x : ℕ). Inserting w n x s v t u os ps count) (let e : 0 + k ≡ k = omega arith in e) g
   passed-over k (suc m) u len h z g = passed-over k m u len (omega arith) (λ j a b. z j a (omega arith)) (record {
-    form = g′ .form ∙ form-down w n (m + k) (omega arith) t t u u (insert-zero w n (m + k) t u (let b = row-before n (m + k) n (omega arith) in omega arith) len (omega arith) (g′ .small .0) (g′ .small .1) (z (m + k) (omega arith) (omega arith)) (read w n (m + k) t)) (λ q a b. refl);
+    form = g′ .form ∙ form-down w n (m + k) (omega arith) t t u u step (λ q a b. refl);
     changed = g′ .changed;
     above = λ j b. let c = g′ .above j b in omega arith;
     room = omega (arith, g′ .room);
@@ -80,6 +82,11 @@ module _ (w n : ℕ) (s v t os ps : List ℕ) (count : ℕ) (room : length t ≡
     where
       g′ : Inserting w n (suc (m + k)) s v t u os ps count
       g′ = subst (λ (x : ℕ). Inserting w n x s v t u os ps count) (let e : suc m + k ≡ suc (m + k) = omega arith in e) g
+
+      step : insert w (slot-at w n (m + k) t ∷ read w n (m + k) t) (flip (take (suc (m + k)) u)) ≡ slot-at w n (m + k) t ∷ insert w (read w n (m + k) t) (flip (take (m + k) u))
+      step =
+          insert-zero w n (m + k) t u (let b = row-before n (m + k) n (omega arith) in omega arith) len (omega arith) (g′ .small .0) (g′ .small .1)
+          (z (m + k) (omega arith) (omega arith)) (read w n (m + k) t)
 
   -- places at which the row is 0 are passed over
   pub inserting-zeros : (k d : ℕ) (u : List ℕ) → length u ≡ n → k ≤ d
@@ -90,26 +97,14 @@ module _ (w n : ℕ) (s v t os ps : List ℕ) (count : ℕ) (room : length t ≡
 
   module _ (k : ℕ) (place : k < n) (t′ u u′ : List ℕ) (len : length t′ ≡ length t) (r : Bool) (turned : Turned w n k t t′ u u′ r) (g : Inserting w n (suc k) s v t u os ps count)
       (small : ((i : ℕ) → getD t′ i 0 < 2 ^ w) × ((i : ℕ) → getD u′ i 0 < 2 ^ w)) where
-    row-kept : (q : ℕ) → q ≢ k → row-at n q t′ ≡ row-at n q t
-    row-kept q ne = part-same (q * n) (q * n + n) t′ t len (λ j a b. elim (cases-lt q k) [
-      | inl l ↦ (let d = row-before n q k l in turned .others j (inl (omega arith)))
-      | inr l ↦ (let d = row-before n k q (omega (arith, ne)) in turned .others j (inr (omega arith)))
-    ])
-
-    tail : (q i : ℕ) → q < i → i < n → getD t′ (q * n + i) 0 ≡ getD t (q * n + i) 0
-    tail q i l b = elim (cases-order q k) [
-      | inl is ↦ (let d : q * n ≡ k * n = ap (λ (z : ℕ). z * n) is in turned .others (q * n + i) (inr (omega arith)))
-      | inr o ↦ elim o [
-        | inl a ↦ (let d = row-before n q k a in turned .others (q * n + i) (inl (omega arith)))
-        | inr a ↦ (let d = row-before n k q a in turned .others (q * n + i) (inr (omega arith)))
-      ]
-    ]
+    tails : (q i : ℕ) → q < i → i < n → word-at n q i t′ ≡ word-at n q i s
+    tails q i l b = elim (cases-eq q k) [
+      | inl is ↦ subst (λ (x : ℕ). word-at n x i t′ ≡ word-at n x i t) (sym is) (turned .tail i (omega arith) b)
+      | inr ne ↦ row-word n q i t′ t b (turned .kept q ne)
+    ] ∙ g .changed .tails q i l b
 
     form : insert w (read w n n s) (flip v) ≡ slots w n k (n - k) t′ ++ insert w (read w n k t′) (flip (take k u′))
-    form = g .form ∙ form-down w n k place t t′ u u′ (turned .step (read w n k t)) (λ q a b. slot-same w n q t t′ (sym len) a (sym (row-kept q b)))
-
-    pivot-same : (q : ℕ) → q < n → q ≢ k → getD t′ (q * n + q) 0 ≡ getD t (q * n + q) 0
-    pivot-same q h ne = row-word n q q t′ t h (row-kept q ne)
+    form = g .form ∙ form-down w n k place t t′ u u′ (turned .step (read w n k t)) (λ q a b. slot-same w n q t t′ (sym len) a (sym (turned .kept q b)))
 
     -- the row of the table stays
     pub inserting-same : r ≡ false → Inserting w n k s v t′ u′ os ps count
@@ -129,52 +124,63 @@ module _ (w n : ℕ) (s v t os ps : List ℕ) (count : ℕ) (room : length t ≡
       other : (j : ℕ) → j ≢ count → getD (set ps count k) j 0 ≡ getD ps j 0
       other j ne = getD-set-other ps count j k 0 ne
 
-      old : row-at n k t ≡ row-at n k s
-      old = g .changed .kept k place (λ j b is. let c = g .above j b in omega arith)
+      -- what holds of k and of the places told before
+      each : (P : ℕ → Type 0) → P k → ((j : ℕ) → j < count → P (getD ps j 0)) → (j : ℕ) → j < count + 1 → P (getD (set ps count k) j 0)
+      each P now before j b = elim (cases-eq j count) [
+        | inl is ↦ subst P (sym (ap (λ (x : ℕ). getD (set ps count k) x 0) is ∙ here)) now
+        | inr ne ↦ subst P (sym (other j ne)) (before j (omega (arith, ne)))
+      ]
 
-      within : (j : ℕ) → j < count + 1 → getD (set ps count k) j 0 < n
-      within j b = elim (cases-eq j count) [ inl is ↦ rw is (rw here place) | inr ne ↦ rw (other j ne) (g .changed .within j (omega (arith, ne))) ]
+      -- the places told before stand behind k, so that their rows are as they were
+      apart : (j : ℕ) → j < count → getD ps j 0 ≢ k
+      apart j b is = let c = g .above j b in omega arith
+
+      old : row-at n k t ≡ row-at n k s
+      old = g .changed .kept k place apart
 
       down : (i j : ℕ) → i < j → j < count + 1 → getD (set ps count k) j 0 < getD (set ps count k) i 0
-      down i j l b = let o = other i (λ is. omega arith) in elim (cases-eq j count) [
-        | inl is ↦ (let c = g .above i (omega arith) in let d : getD (set ps count k) j 0 ≡ k = rw is here in omega arith)
-        | inr ne ↦ (let d = g .changed .down i j l (omega (arith, ne)) in let f = other j ne in omega arith)
-      ]
+      down i j l b =
+          let o = other i (λ is. omega arith) in
+          elim (cases-eq j count) [
+            | inl is ↦ (let c = g .above i (omega arith) in let d : getD (set ps count k) j 0 ≡ k = rw is here in omega arith)
+            | inr ne ↦ (let d = g .changed .down i j l (omega (arith, ne)) in let f = other j ne in omega arith)
+          ]
 
       fell : (j : ℕ) → j < count + 1 → exponent-at w n (getD (set ps count k) j 0) t′ < exponent-at w n (getD (set ps count k) j 0) s
-      fell j b = elim (cases-eq j count) [
-        | inl is ↦ subst (λ (x : ℕ). exponent-at w n x t′ < exponent-at w n x s) (sym (ap (λ (x : ℕ). getD (set ps count k) x 0) is ∙ here)) (let f = turned .falls e in let d = exponent-same w n k t s place old in omega arith)
-        | inr ne ↦ subst (λ (x : ℕ). exponent-at w n x t′ < exponent-at w n x s) (sym (other j ne)) (let lt : j < count = omega (arith, ne) in let f = g .changed .fell j lt in let a = g .above j lt in let d = exponent-same w n (getD ps j 0) t′ t (g .changed .within j lt) (row-kept (getD ps j 0) (λ is. omega arith)) in omega arith)
-      ]
+      fell =
+          each (λ (x : ℕ). exponent-at w n x t′ < exponent-at w n x s)
+          (let f = turned .falls e in let d = exponent-same w n k t s place old in omega arith)
+          (λ j b. let f = g .changed .fell j b in let d = exponent-same w n (getD ps j 0) t′ t (g .changed .within j b) (turned .kept (getD ps j 0) (apart j b)) in omega arith)
 
-      powers : (j : ℕ) → j < count + 1 → getD t′ (getD (set ps count k) j 0 * n + getD (set ps count k) j 0) 0 ≡ 2 ^ exponent-at w n (getD (set ps count k) j 0) t′
-      powers j b = elim (cases-eq j count) [
-        | inl is ↦ subst (λ (x : ℕ). getD t′ (x * n + x) 0 ≡ 2 ^ exponent-at w n x t′) (sym (ap (λ (x : ℕ). getD (set ps count k) x 0) is ∙ here)) (turned .power e)
-        | inr ne ↦ subst (λ (x : ℕ). getD t′ (x * n + x) 0 ≡ 2 ^ exponent-at w n x t′) (sym (other j ne)) (let lt : j < count = omega (arith, ne) in let p = pivot-same (getD ps j 0) (g .changed .within j lt) (let a = g .above j lt in λ is. omega arith) in p ∙ g .changed .powers j lt ∙ ap (λ (x : ℕ). 2 ^ trailingZeros w x) (sym p))
-      ]
+      powers : (j : ℕ) → j < count + 1 → pivot-at n (getD (set ps count k) j 0) t′ ≡ 2 ^ exponent-at w n (getD (set ps count k) j 0) t′
+      powers =
+          each (λ (x : ℕ). pivot-at n x t′ ≡ 2 ^ exponent-at w n x t′) (turned .power e)
+          (λ j b. let p = row-word n (getD ps j 0) (getD ps j 0) t′ t (g .changed .within j b) (turned .kept (getD ps j 0) (apart j b)) in p ∙ g .changed .powers j b ∙ ap (λ (x : ℕ). 2 ^ trailingZeros w x) (sym p))
 
       kept : (q : ℕ) → q < n → ((j : ℕ) → j < count + 1 → getD (set ps count k) j 0 ≡ q → ⊥) → row-at n q t′ ≡ row-at n q s
-      kept q b none = row-kept q (λ is. none count (omega arith) (here ∙ sym is)) ∙ g .changed .kept q b (λ j l is. none j (omega arith) (other j (λ x. omega arith) ∙ is))
+      kept q b none = turned .kept q (λ is. none count (omega arith) (here ∙ sym is)) ∙ g .changed .kept q b (λ j l is. none j (omega arith) (other j (λ x. omega arith) ∙ is))
+
+      sum : weight (read w n n t′) + (count + 1) ≤ weight (read w n n s)
+      sum =
+          let f = turned .falls e in
+          let x = weight-falls w n k 1 t t′ (omega arith) n place (λ q a ne. exponent-same w n q t′ t a (turned .kept q ne)) in
+          omega (arith, g .changed .sum)
 
       pub inserting-more : Inserting w n k s v t′ u′ os (set ps count k) (count + 1)
       inserting-more = record {
         form = form;
         changed = record {
           few = omega (arith, g .room);
-          within = within;
+          within = each (λ (x : ℕ). x < n) place (g .changed .within);
           down = down;
           fell = fell;
           powers = powers;
           kept = kept;
-          tails = λ q i l b. tail q i l b ∙ g .changed .tails q i l b;
+          tails = tails;
           behind = λ j b. other j (λ is. omega arith) ∙ g .changed .behind j (omega arith);
-          sum =
-              let f = turned .falls e in
-              let x = weight-falls w n k 1 t t′ (omega arith) n place (λ q a ne. exponent-same w n q t′ t a (row-kept q ne)) in
-              let y = g .changed .sum in
-              omega arith;
+          sum = sum;
         };
-        above = λ j b. elim (cases-eq j count) [ inl is ↦ (let d : getD (set ps count k) j 0 ≡ k = rw is here in omega arith) | inr ne ↦ (let d = other j ne in let c = g .above j (omega (arith, ne)) in omega arith) ];
+        above = each (λ (x : ℕ). k ≤ x) (omega arith) (λ j b. let c = g .above j b in omega arith);
         room = omega (arith, g .room);
         small = small;
       }

@@ -17,27 +17,40 @@ use Rattle.algebra.specs.Span.{Fit}
 use Rattle.algebra.specs.Form.{Slot, slot, Form, WellFormed, no-slots, slot-on, weight}
 use Rattle.algebra.proofs.Vec.{below-cons}
 use Rattle.algebra.proofs.LastPlace.{fit-flip}
-use Rattle.forms.specs.Flat.{part, row-at, exponent-at, entries-at, slot-at, read, table-at, form-at}
+use Rattle.forms.specs.Flat.{part, row-at, word-at, RowIn, exponent-at, entries-at, slot-at, read, table-at, form-at}
 
 -- rows stand one behind the other
 pub row-before : (n p q : ℕ) → p < q → p * n + n ≤ q * n
 row-before n p q h = omega (arith, mul-le-mul-right n h)
 
+pub row-in : (n k : ℕ) (ws : List ℕ) → n * n ≤ length ws → k < n → RowIn n k ws
+row-in n k ws room h = omega (arith, row-before n k n h)
+
 getD-part : (a b : ℕ) (t : List ℕ) (i : ℕ) → i < b - a → getD (part a b t) i 0 ≡ getD t (a + i) 0
 getD-part a b t i h = getD-take (b - a) (drop a t) i 0 h ∙ getD-drop a t i 0
 
 pub part-same : (a b : ℕ) (s t : List ℕ) → length s ≡ length t → ((j : ℕ) → a ≤ j → j < b → getD s j 0 ≡ getD t j 0) → part a b s ≡ part a b t
-part-same a b s t e h = ext-getD 0 (part a b s) (part a b t) (search (needs, places)) (λ i l. let k : length (part a b s) ≤ b - a = search (needs, places) in getD-part a b s i (omega arith) ∙ h (a + i) (omega arith) (omega arith) ∙ sym (getD-part a b t i (omega arith)))
+part-same a b s t e h = ext-getD 0 (part a b s) (part a b t) (search (needs, places)) word
+  where
+    word : (i : ℕ) → i < length (part a b s) → getD (part a b s) i 0 ≡ getD (part a b t) i 0
+    word i l =
+        let k : length (part a b s) ≤ b - a = search (needs, places) in
+        getD-part a b s i (omega arith) ∙ h (a + i) (omega arith) (omega arith) ∙ sym (getD-part a b t i (omega arith))
 
 -- a row that is as it was has its slot as it was
-pub row-word : (n q i : ℕ) (s t : List ℕ) → i < n → row-at n q s ≡ row-at n q t → getD s (q * n + i) 0 ≡ getD t (q * n + i) 0
+pub row-word : (n q i : ℕ) (s t : List ℕ) → i < n → row-at n q s ≡ row-at n q t → word-at n q i s ≡ word-at n q i t
 row-word n q i s t h e = sym (getD-part (q * n) (q * n + n) s i (omega arith)) ∙ ap (λ (z : List ℕ). getD z i 0) e ∙ getD-part (q * n) (q * n + n) t i (omega arith)
 
 pub exponent-same : (w n q : ℕ) (s t : List ℕ) → q < n → row-at n q s ≡ row-at n q t → exponent-at w n q s ≡ exponent-at w n q t
 exponent-same w n q s t h e = ap (trailingZeros w) (row-word n q q s t h e)
 
 pub slot-same : (w n q : ℕ) (s t : List ℕ) → length s ≡ length t → q < n → row-at n q s ≡ row-at n q t → slot-at w n q s ≡ slot-at w n q t
-slot-same w n q s t len h e = ap₂ {A = ℕ} {B = List ℕ} {C = Slot} slot (exponent-same w n q s t h e) (ap flip (part-same (q * n) (q * n + q) s t len (λ j a b. (let i : q * n + (j - q * n) ≡ j = omega arith in ap (λ (z : ℕ). getD s z 0) (sym i) ∙ row-word n q (j - q * n) s t (omega arith) e ∙ ap (λ (z : ℕ). getD t z 0) i))))
+slot-same w n q s t len h e = ap₂ {A = ℕ} {B = List ℕ} {C = Slot} slot (exponent-same w n q s t h e) (ap flip (part-same (q * n) (q * n + q) s t len word))
+  where
+    word : (j : ℕ) → q * n ≤ j → j < q * n + q → getD s j 0 ≡ getD t j 0
+    word j a b =
+        let i : q * n + (j - q * n) ≡ j = omega arith in
+        ap (λ (z : ℕ). getD s z 0) (sym i) ∙ row-word n q (j - q * n) s t (omega arith) e ∙ ap (λ (z : ℕ). getD t z 0) i
 
 pub length-read : (w n k : ℕ) (ws : List ℕ) → length (read w n k ws) ≡ k
 unfolding read
@@ -107,7 +120,10 @@ fit-part w k a b t e h small = fit-words w k (part a b t) (search (needs, places
 pub fine-read : (w n k : ℕ) (t : List ℕ) → k ≤ n → n * n ≤ length t → ((i : ℕ) → getD t i 0 < 2 ^ w) → WellFormed w k (read w n k t)
 unfolding read
 fine-read w n zero t h l small = no-slots
-fine-read w n (suc k) t h l small = slot-on (trailing-le w (getD t (k * n + k) 0)) (fit-flip w (fit-part w k (k * n) (k * n + k) t (omega arith) (let b = row-before n k n (omega arith) in omega arith) small)) (fine-read w n k t (omega arith) l small)
+fine-read w n (suc k) t h l small =
+    slot-on (trailing-le w (getD t (k * n + k) 0))
+    (fit-flip w (fit-part w k (k * n) (k * n + k) t (omega arith) (let b = row-before n k n (omega arith) in omega arith) small))
+    (fine-read w n k t (omega arith) l small)
 
 pub fine-form : (w n at : ℕ) (ws : List ℕ) → at + n * n ≤ length ws → ((i : ℕ) → getD ws i 0 < 2 ^ w) → WellFormed w n (form-at w n at ws)
 fine-form w n at ws room small = fine-read w n n (table-at n at ws) (omega arith) (let e : length (table-at n at ws) ≡ n * n = search (needs, places) in omega arith) (small-part w at (at + n * n) ws small)

@@ -54,7 +54,8 @@ module _ (w n : ℕ) (ws : List ℕ) where
   extend-told k (suc j) h =
       extend-append (extra w (slot-at w n k ws)) (told w n ws k j) (lead-row (exponent-at w n j ws) (law-to w n ws j (k - suc j)))
       ∙ ap₂ (λ (a b : List (List ℕ)). a ++ b) (extend-told k j (omega arith))
-      (extend-lead (extra w (slot-at w n k ws)) (exponent-at w n j ws) (law-to w n ws j (k - suc j)) ∙ ap (lead-row (exponent-at w n j ws)) (law-more j k (omega arith) ∙ ap (law-to w n ws j) (let e : k - j ≡ suc k - suc j = omega arith in e)))
+      (extend-lead (extra w (slot-at w n k ws)) (exponent-at w n j ws) (law-to w n ws j (k - suc j))
+      ∙ ap (lead-row (exponent-at w n j ws)) (law-more j k (omega arith) ∙ ap (law-to w n ws j) (let e : k - j ≡ suc k - suc j = omega arith in e)))
 
   final-lead : (e k : ℕ) → e ≡ exponent-at w n k ws → final w e k ≡ lead-row e (law-to w n ws k 0)
   unfolding final lead-row law-to
@@ -67,7 +68,9 @@ module _ (w n : ℕ) (ws : List ℕ) where
   tell-told zero = refl
   tell-told (suc k) =
       ap₂ (λ (a b : List (List ℕ)). a ++ b) (ap (extend (extra w (slot-at w n k ws))) (tell-told k) ∙ extend-told k k (omega arith))
-      (ap (final w (exponent-at w n k ws)) (length-read w n k ws) ∙ final-lead (exponent-at w n k ws) k refl ∙ ap (λ (z : ℕ). lead-row (exponent-at w n k ws) (law-to w n ws k z)) (let e : 0 ≡ suc k - suc k = omega arith in e))
+      (ap (final w (exponent-at w n k ws)) (length-read w n k ws)
+      ∙ final-lead (exponent-at w n k ws) k refl
+      ∙ ap (λ (z : ℕ). lead-row (exponent-at w n k ws) (law-to w n ws k z)) (let e : 0 ≡ suc k - suc k = omega arith in e))
 
   -- places whose pivot is 1 have no law
   told-skip : (k j m : ℕ) → ((i : ℕ) → j ≤ i → i < m + j → exponent-at w n i ws ≡ 0) → told w n ws k (m + j) ≡ told w n ws k j
@@ -86,11 +89,11 @@ module _ (w n : ℕ) (ws : List ℕ) where
   lead-some zero r h = absurd (omega arith)
   lead-some (suc e) r h = refl
 
-  pub told-more : (k q : ℕ) → 0 < exponent-at w n q ws → told w n ws k (q + 1) ≡ told w n ws k q ++ (law-to w n ws q (k - suc q) ∷ [])
+  told-more : (k q : ℕ) → 0 < exponent-at w n q ws → told w n ws k (q + 1) ≡ told w n ws k q ++ (law-to w n ws q (k - suc q) ∷ [])
   unfolding told
   told-more k q h = ap (told w n ws k) (add-one q) ∙ ap (λ (x : List (List ℕ)). told w n ws k q ++ x) (lead-some (exponent-at w n q ws) (law-to w n ws q (k - suc q)) h)
 
-  pub length-law : (q m : ℕ) → length (law-to w n ws q m) ≡ suc (q + m)
+  length-law : (q m : ℕ) → length (law-to w n ws q m) ≡ suc (q + m)
   unfolding law-to
   length-law q zero = length-snoc (replicate q 0) (2 ^ (w - exponent-at w n q ws)) ∙ ap suc (length-replicate q 0 ∙ (let e : q ≡ q + 0 = omega arith in e))
   length-law q (suc m) = length-snoc (law-to w n ws q m) (extra w (slot-at w n (suc (q + m)) ws) (law-to w n ws q m)) ∙ ap suc (length-law q m ∙ (let e : suc (q + m) ≡ q + suc m = omega arith in e))
@@ -130,10 +133,10 @@ flat-push : (rs : List (List ℕ)) (r : List ℕ) → flat (rs ++ (r ∷ [])) �
 flat-push [] r = append-nil r
 flat-push (s ∷ rs) r = ap (λ (z : List ℕ). s ++ z) (flat-push rs r) ∙ sym (append-assoc s (flat rs) r)
 
-pub written-none : (n : ℕ) (s : List ℕ) → Written n [] s s 0
+written-none : (n : ℕ) (s : List ℕ) → Written n [] s s 0
 written-none n s = (let z : 0 * n ≡ 0 = omega arith in record { many = refl; rows = ap (λ (y : ℕ). take y s) z; behind = refl })
 
-pub written-more : (n count : ℕ) (rs : List (List ℕ)) (s t r : List ℕ) → length r ≡ n → count * n + n ≤ length t → Written n rs s t count
+written-more : (n count : ℕ) (rs : List (List ℕ)) (s t r : List ℕ) → length r ≡ n → count * n + n ≤ length t → Written n rs s t count
     → Written n (rs ++ (r ∷ [])) s (putMid (count * n) (count * n + n - count * n) t r) (count + 1)
 written-more n count rs s t r len room g = record {
   many = ap (λ (y : ℕ). y + 1) (g .many) ∙ sym (length-append rs (r ∷ []));
@@ -144,9 +147,10 @@ written-more n count rs s t r len room g = record {
     far : (z : List ℕ) → drop ((count + 1) * n) z ≡ drop n (drop (count * n) z)
     far z = (let q : (count + 1) * n ≡ count * n + n = omega arith in ap (λ (y : ℕ). drop y z) q) ∙ sym (drop-drop n (count * n) z)
 
-pub told-none : (w n : ℕ) (ws : List ℕ) (k : ℕ) → told w n ws k 0 ≡ []
+-- no place looked at yet
+pub told-start : (w n : ℕ) (ws s : List ℕ) → Written n (told w n ws n 0) s s 0
 unfolding told
-told-none w n ws k = refl
+told-start w n ws s = written-none n s
 
 -- the law of the next place that has one
 pub told-turn : (w n : ℕ) (ws : List ℕ) (next q count : ℕ) (s t r : List ℕ) → next ≤ q → q < n → ((i : ℕ) → next ≤ i → i < q → exponent-at w n i ws ≡ 0) → 0 < exponent-at w n q ws

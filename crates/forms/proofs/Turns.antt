@@ -12,6 +12,7 @@ use lib.ListN.{length, take, drop, getD, set}
 use lib.Count.{trailingZeros, trailing-le, trailing-of-zero}
 use lib.Pow.{pow-lt}
 use Rattle.std.proofs.shelf.Lists.{places, same-lists, getD-set-same, getD-set-other, length-set, take-at, take-set, take-set-le, length-take-le, getD-take}
+use Rattle.std.proofs.shelf.Tests.{cases-lt}
 use Rattle.std.proofs.shelf.Parts.{between-is, between-putMid}
 use Rattle.algebra.specs.Vec.{neg, plus, times, less, snoc, flip}
 use Rattle.algebra.specs.Span.{Fit}
@@ -25,7 +26,7 @@ use Rattle.algebra.proofs.FormSpans.{less-zero}
 use Rattle.algebra.proofs.Insert.{insert-big, insert-new}
 use Rattle.forms.specs.Flat.{part, exponent-at, entries-at, slot-at}
 use Rattle.forms.specs.Insertion.{Turned}
-use Rattle.forms.proofs.Reading.{fit-part}
+use Rattle.forms.proofs.Reading.{row-before, part-same, fit-part}
 
 -- the place k of a vector, and those before it
 pub flip-take : (k : ℕ) (v : List ℕ) → k < length v → flip (take (suc k) v) ≡ getD v k 0 ∷ flip (take k v)
@@ -45,11 +46,21 @@ abbrev pub written : ℕ → ℕ → ℕ → List ℕ → List ℕ → List ℕ
 written from pivot y u s = putMid from (pivot - from) (set s pivot y) u
 
 module _ (from pivot y : ℕ) (u s : List ℕ) (h : from ≤ pivot) (room : pivot < length s) (len : length u ≡ pivot - from) where
+  written-length : length (written from pivot y u s) ≡ length s
+  written-length = let l = length-set s pivot y in search (needs, places)
+
+  set-other : (j : ℕ) → j ≢ pivot → getD (written from pivot y u s) j 0 ≡ getD (set s pivot y) j 0 → getD (written from pivot y u s) j 0 ≡ getD s j 0
+  set-other j ne e = e ∙ getD-set-other s pivot j y 0 ne
+
   pub written-other : (j : ℕ) → (j < from) ⊎ (pivot < j) → getD (written from pivot y u s) j 0 ≡ getD s j 0
-  written-other j b = let l = length-set s pivot y in let ne : j ≢ pivot = elim b [ inl a ↦ omega arith | inr a ↦ omega arith ] in elim b [ inl a ↦ (let e : getD (written from pivot y u s) j 0 ≡ getD (set s pivot y) j 0 = search (needs, places) in e) ∙ getD-set-other s pivot j y 0 ne | inr a ↦ (let e : getD (written from pivot y u s) j 0 ≡ getD (set s pivot y) j 0 = search (needs, places) in e) ∙ getD-set-other s pivot j y 0 ne ]
+  written-other j (inl b) = let l = length-set s pivot y in set-other j (λ e. omega arith) (search (needs, places))
+  written-other j (inr b) = let l = length-set s pivot y in set-other j (λ e. omega arith) (search (needs, places))
 
   pub written-here : getD (written from pivot y u s) pivot 0 ≡ y
-  written-here = let l = length-set s pivot y in (let e : getD (written from pivot y u s) pivot 0 ≡ getD (set s pivot y) pivot 0 = search (needs, places) in e) ∙ getD-set-same s pivot y 0 (omega arith)
+  written-here =
+      let l = length-set s pivot y in
+      let e : getD (written from pivot y u s) pivot 0 ≡ getD (set s pivot y) pivot 0 = search (needs, places) in
+      e ∙ getD-set-same s pivot y 0 (omega arith)
 
   pub written-part : part from pivot (written from pivot y u s) ≡ u
   written-part = between-putMid from (pivot - from) (set s pivot y) u pivot (let l = length-set s pivot y in omega arith) len
@@ -70,37 +81,51 @@ module _ (w n k : ℕ) (s v : List ℕ) (room : k * n + n ≤ length s) (sized :
   len-entries = search (needs, places)
 
   -- the row v is reduced by the table's row
-  pub turned-keep : (q : ℕ) (z : List ℕ) → exponent-at w n k s ≤ trailingZeros w (getD v k 0) → q ≡ (neg w * (getD v k 0 / 2 ^ exponent-at w n k s)) % 2 ^ w
+  pub turned-keep : (q : ℕ) (z : List ℕ)
+      → exponent-at w n k s ≤ trailingZeros w (getD v k 0)
+      → q ≡ (neg w * (getD v k 0 / 2 ^ exponent-at w n k s)) % 2 ^ w
       → z ≡ plus w (take (k - 0) v) (times w q (entries-at n k s)) → Turned w n k s s v (putMid 0 (k - 0) v z) false
   turned-keep q z le qis zis = record {
     step = λ f.
         ap (insert w (slot-at w n k s ∷ f)) (flip-take k v (omega arith))
         ∙ insert-big w (exponent-at w n k s) (getD v k 0) (flip (entries-at n k s)) (flip (take k v)) f le
-        ∙ ap (λ (a : List ℕ). slot-at w n k s ∷ insert w f a) (flip-less w (getD v k 0 / 2 ^ exponent-at w n k s) (take k v) (entries-at n k s) (len-row ∙ sym len-entries) ∙ ap flip (sym z-is ∙ sym (take-put k v z len-z)));
-    others = λ j h. refl;
+        ∙ ap (λ (a : List ℕ). slot-at w n k s ∷ insert w f a) (flip-less w quotient (take k v) (entries-at n k s) (len-row ∙ sym len-entries) ∙ ap flip (sym z-is ∙ sym (take-put k v z len-z)));
+    kept = λ q ne. refl;
+    tail = λ i l b. refl;
     falls = λ h. absurd (let a : _≡_ {A = ℕ} 0 1 = cc in omega arith);
     power = λ h. absurd (let a : _≡_ {A = ℕ} 0 1 = cc in omega arith);
     same = λ h. refl;
   }
     where
-      z-is : z ≡ less w (take k v) (getD v k 0 / 2 ^ exponent-at w n k s) (entries-at n k s)
-      z-is = zis ∙ ap₂ (λ (a b : List ℕ). plus w a b) (ap (λ (a : ℕ). take a v) (sub-zero k)) (ap (λ (a : ℕ). times w a (entries-at n k s)) qis ∙ times-mod w (neg w * (getD v k 0 / 2 ^ exponent-at w n k s)) (entries-at n k s))
+      quotient : ℕ
+      quotient = getD v k 0 / 2 ^ exponent-at w n k s
+
+      z-is : z ≡ less w (take k v) quotient (entries-at n k s)
+      z-is =
+          zis
+          ∙ ap₂ (λ (a b : List ℕ). plus w a b) (ap (λ (a : ℕ). take a v) (sub-zero k)) (ap (λ (a : ℕ). times w a (entries-at n k s)) qis ∙ times-mod w (neg w * quotient) (entries-at n k s))
 
       len-z : length z ≡ k
-      len-z = ap length z-is ∙ length-plus w (take k v) _ (len-row ∙ sym len-entries ∙ sym (length-times w (neg w * (getD v k 0 / 2 ^ exponent-at w n k s)) (entries-at n k s))) ∙ len-row
+      len-z = ap length z-is ∙ length-plus w (take k v) _ (len-row ∙ sym len-entries ∙ sym (length-times w (neg w * quotient) (entries-at n k s))) ∙ len-row
 
   -- the row v, made to begin with a power of two, is the table's row, and what was there is reduced and goes on
-  pub turned-new : (y c q : ℕ) (u z : List ℕ) → trailingZeros w (getD v k 0) < exponent-at w n k s → y ≡ 2 ^ trailingZeros w (getD v k 0) % 2 ^ w
-      → c ≡ inverse w (getD v k 0 / 2 ^ trailingZeros w (getD v k 0)) → q ≡ (neg w * (2 ^ (exponent-at w n k s - trailingZeros w (getD v k 0)) % 2 ^ w)) % 2 ^ w
-      → u ≡ times w c (take (k - 0) v) → z ≡ plus w (entries-at n k (set s (k * n + k) y)) (times w q (times w c (take (k - 0) v)))
+  pub turned-new : (y c q : ℕ) (u z : List ℕ)
+      → trailingZeros w (getD v k 0) < exponent-at w n k s
+      → y ≡ 2 ^ trailingZeros w (getD v k 0) % 2 ^ w
+      → c ≡ inverse w (getD v k 0 / 2 ^ trailingZeros w (getD v k 0))
+      → q ≡ (neg w * (2 ^ (exponent-at w n k s - trailingZeros w (getD v k 0)) % 2 ^ w)) % 2 ^ w
+      → u ≡ times w c (take (k - 0) v)
+      → z ≡ plus w (entries-at n k (set s (k * n + k) y)) (times w q (times w c (take (k - 0) v)))
       → Turned w n k s (written (k * n) (k * n + k) y u s) v (putMid 0 (k - 0) v z) true
   turned-new y c q u z lt yis cis qis uis zis = record {
     step = λ f.
         ap (insert w (slot-at w n k s ∷ f)) (flip-take k v (omega arith))
         ∙ insert-new w e (getD v k 0) (flip (entries-at n k s)) (flip (take k v)) f lt
         ∙ ap (λ (a : List ℕ). slot i a ∷ insert w f (less w (flip (entries-at n k s)) (2 ^ (e - i)) a)) new-is
-        ∙ ap₂ {A = Slot} {B = Form} {C = Form} (λ (a : Slot) (b : Form). a ∷ b) slot-is (ap (insert w f) (flip-less w (2 ^ (e - i)) (entries-at n k s) u (len-entries ∙ sym len-u) ∙ ap flip (sym z-is ∙ sym (take-put k v z len-z))));
-    others = written-other (k * n) (k * n + k) y u s (omega arith) (omega arith) len;
+        ∙ ap₂ {A = Slot} {B = Form} {C = Form} (λ (a : Slot) (b : Form). a ∷ b) slot-is
+        (ap (insert w f) (flip-less w (2 ^ (e - i)) (entries-at n k s) u (len-entries ∙ sym len-u) ∙ ap flip (sym z-is ∙ sym (take-put k v z len-z))));
+    kept = λ q ne. part-same (q * n) (q * n + n) t s len-t (λ j a b. other j (apart q ne j a b));
+    tail = λ j l b. other (k * n + j) (inr (omega arith));
     falls = λ h. omega (arith, zeros);
     power = λ h. here ∙ yis ∙ mod-eq-of-lt (pow-lt {i = i} {j = w} (omega (arith, trailing-le w (getD s (k * n + k) 0)))) ∙ ap (λ (a : ℕ). 2 ^ a) (sym zeros);
     same = λ h. absurd (let a : _≡_ {A = ℕ} 0 1 = cc in omega arith);
@@ -127,6 +152,19 @@ module _ (w n k : ℕ) (s v : List ℕ) (room : k * n + n ≤ length s) (sized :
       len : length u ≡ k * n + k - k * n
       len = omega (arith, len-u)
 
+      other : (j : ℕ) → (j < k * n) ⊎ (k * n + k < j) → getD t j 0 ≡ getD s j 0
+      other = written-other (k * n) (k * n + k) y u s (omega arith) (omega arith) len
+
+      len-t : length t ≡ length s
+      len-t = written-length (k * n) (k * n + k) y u s (omega arith) (omega arith) len
+
+      -- the words of other rows
+      apart : (q : ℕ) → q ≢ k → (j : ℕ) → q * n ≤ j → j < q * n + n → (j < k * n) ⊎ (k * n + k < j)
+      apart q ne j a b = elim (cases-lt q k) [
+        | inl l ↦ inl (let d = row-before n q k l in omega arith)
+        | inr l ↦ inr (let d = row-before n k q (omega (arith, ne)) in omega arith)
+      ]
+
       here : getD t (k * n + k) 0 ≡ y
       here = written-here (k * n) (k * n + k) y u s (omega arith) (omega arith) len
 
@@ -146,7 +184,8 @@ module _ (w n k : ℕ) (s v : List ℕ) (room : k * n + n ≤ length s) (sized :
       len-z = ap length z-is ∙ length-plus w (entries-at n k s) _ (len-entries ∙ sym len-u ∙ sym (length-times w (neg w * 2 ^ (e - i)) u)) ∙ len-entries
 
 -- a place at which the row is 0 is passed over
-pub insert-zero : (w n k : ℕ) (s v : List ℕ) → k * n + n ≤ length s → length v ≡ n → k < n → ((i : ℕ) → getD s i 0 < 2 ^ w) → ((i : ℕ) → getD v i 0 < 2 ^ w) → getD v k 0 ≡ 0
+pub insert-zero : (w n k : ℕ) (s v : List ℕ) → k * n + n ≤ length s → length v ≡ n → k < n
+    → ((i : ℕ) → getD s i 0 < 2 ^ w) → ((i : ℕ) → getD v i 0 < 2 ^ w) → getD v k 0 ≡ 0
     → (f : Form) → insert w (slot-at w n k s ∷ f) (flip (take (suc k) v)) ≡ slot-at w n k s ∷ insert w f (flip (take k v))
 insert-zero w n k s v room sized place small-s small-v z f =
     ap (insert w (slot-at w n k s ∷ f)) (flip-take k v (omega arith))

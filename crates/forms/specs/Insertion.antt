@@ -1,6 +1,6 @@
 -- A row inserted into a table, place by place, the last place first.
 use mathlib.Core.Path.{_≡_}
-use mathlib.Core.Logic.{_⊎_, _↔_}
+use mathlib.Core.Logic.{_≢_, _↔_}
 use mathlib.Core.Bool.{Bool, true, false}
 use mathlib.Core.List.{List, _∷_}
 use Prim.Native.Nat.{ℕ, suc, _+_, _*_, _^_, _<_, _≤_}
@@ -13,15 +13,17 @@ use Rattle.algebra.specs.Form.{Form, insert, weight}
 use Rattle.algebra.specs.Theorems.{Inserting}
 use Rattle.forms.specs.declared.row.Row.{Row}
 use Rattle.forms.specs.declared.row.Changes.{Changes}
-use Rattle.forms.specs.Flat.{exponent-at, slot-at, row-at, read, table-at}
+use Rattle.forms.specs.Flat.{row-at, word-at, pivot-at, exponent-at, slot-at, read, table-at}
 use Rattle.forms.specs.Meaning.{Spans, HowellAt}
 
 -- the row v inserted at its place k into the table s: t is the table then, and u the row that goes on to the places before k
 pub record Turned (w n k : ℕ) (s t v u : List ℕ) (changed : Bool) : Type 0 where
   pub step : (f : Form) → insert w (slot-at w n k s ∷ f) (flip (take (suc k) v)) ≡ slot-at w n k t ∷ insert w f (flip (take k u))
-  pub others : (j : ℕ) → (j < k * n) ⊎ (k * n + k < j) → getD t j 0 ≡ getD s j 0
+  -- the other rows are as they were, and so is what stands behind the pivot
+  pub kept : (q : ℕ) → q ≢ k → row-at n q t ≡ row-at n q s
+  pub tail : (i : ℕ) → k < i → i < n → word-at n k i t ≡ word-at n k i s
   pub falls : changed ≡ true → exponent-at w n k t < exponent-at w n k s
-  pub power : changed ≡ true → getD t (k * n + k) 0 ≡ 2 ^ exponent-at w n k t
+  pub power : changed ≡ true → pivot-at n k t ≡ 2 ^ exponent-at w n k t
   pub same : changed ≡ false → t ≡ s
 
 -- the rows of the table s that are told as changed in the table t: `count` places, first in the list `ps`, which was `os`
@@ -31,10 +33,10 @@ pub record Changed (w n : ℕ) (s t os ps : List ℕ) (count : ℕ) : Type 0 whe
   pub down : (i j : ℕ) → i < j → j < count → getD ps j 0 < getD ps i 0
   -- the exponent of each of them fell, and its pivot is a power of two
   pub fell : (j : ℕ) → j < count → exponent-at w n (getD ps j 0) t < exponent-at w n (getD ps j 0) s
-  pub powers : (j : ℕ) → j < count → getD t (getD ps j 0 * n + getD ps j 0) 0 ≡ 2 ^ exponent-at w n (getD ps j 0) t
+  pub powers : (j : ℕ) → j < count → pivot-at n (getD ps j 0) t ≡ 2 ^ exponent-at w n (getD ps j 0) t
   -- all other rows are as they were, and so is what stands behind the pivots, and the list behind the places
   pub kept : (q : ℕ) → q < n → ((j : ℕ) → j < count → getD ps j 0 ≡ q → ⊥) → row-at n q t ≡ row-at n q s
-  pub tails : (q i : ℕ) → q < i → i < n → getD t (q * n + i) 0 ≡ getD s (q * n + i) 0
+  pub tails : (q i : ℕ) → q < i → i < n → word-at n q i t ≡ word-at n q i s
   pub behind : (j : ℕ) → count ≤ j → getD ps j 0 ≡ getD os j 0
   -- so the sum of the exponents falls by as much as rows are told, or more
   pub sum : weight (read w n n t) + count ≤ weight (read w n n s)

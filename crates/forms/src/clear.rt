@@ -1,4 +1,5 @@
 //! A table with no rows.
+use crate::table::table_end;
 ghost use Rattle.forms.specs.Clearing.{ClearPost};
 
 /// Makes the table of `n` places that begins at the word `at` of the lent words one with no rows: all its words 0. Whether
@@ -6,12 +7,9 @@ ghost use Rattle.forms.specs.Clearing.{ClearPost};
 pub fn clear(work: &mut [u32], at: usize, n: usize) -> bool
     ensures { λ r. ⌜ ClearPost at n (now (work .entry)) (now (work .exit)) r ⌝ }
 {
-    let Some(size) = n.checked_mul(n) else {
+    let Some(end) = table_end(work.len(), at, n) else {
         return false;
     };
-    if work.len() < size || work.len() - size < at {
-        return false;
-    }
-    work[at..at + size].fill(0);
+    work[at..end].fill(0);
     true
 }

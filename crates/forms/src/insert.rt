@@ -3,6 +3,7 @@ use crate::row::Changes;
 use crate::row::PLACES;
 use crate::row::Row;
 use crate::table::insert_at;
+use crate::table::table_end;
 ghost use Prim.Native.Nat.{_+_, _*_, _<_, _≤_};
 ghost use mathlib.Core.Path.{_≡_};
 ghost use lib.ListN.{length};
@@ -15,13 +16,11 @@ pub fn insert(work: &mut [u32], at: usize, row: &mut [u32], changed: &mut [usize
     ensures { λ r. ⌜ InsertPost at (now (work .entry)) (now (work .exit)) (now (row .entry)) (now (row .exit)) (now (changed .entry)) (now (changed .exit)) r ⌝ }
 {
     let n = row.len();
-    let Some(size) = n.checked_mul(n) else {
-        return None;
-    };
-    if work.len() < size || work.len() - size < at || changed.len() < n {
+    let end = table_end(work.len(), at, n)?;
+    if changed.len() < n {
         return None;
     }
-    Some(pass(&mut work[at..at + size], row, changed))
+    Some(pass(&mut work[at..end], row, changed))
 }
 
 /// The same for a row by value, of which the first `n` words count. `None`, with nothing changed, if it has fewer, or if
@@ -34,9 +33,7 @@ pub fn insert_row(work: &mut [u32], at: usize, n: usize, row: Row) -> Option<Cha
     }
     let mut words = row.words;
     let mut places = [0; PLACES];
-    let Some(count) = insert(work, at, &mut words[0..n], &mut places[..]) else {
-        return None;
-    };
+    let count = insert(work, at, &mut words[0..n], &mut places[..])?;
     Some(Changes { count, places })
 }
 

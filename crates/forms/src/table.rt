@@ -9,12 +9,23 @@ ghost use Prim.Native.Nat.{_+_, _*_, _<_, _≤_};
 ghost use mathlib.Core.Path.{_≡_};
 ghost use lib.ListN.{length, getD, set, take, replicate};
 ghost use Rattle.algebra.specs.Tell.{extra};
-ghost use Rattle.forms.specs.Flat.{exponent-at, slot-at};
+ghost use Rattle.forms.specs.Flat.{RowIn, exponent-at, slot-at, EndSays};
 ghost use Rattle.forms.specs.Insertion.{Turned};
+
+// Where the table of n places that begins at the word `at` ends, if it ends within `len` words.
+pub(crate) fn table_end(len: usize, at: usize, n: usize) -> Option<usize>
+    ensures { λ r. ⌜ EndSays len at n r ⌝ }
+{
+    let end = at.checked_add(n.checked_mul(n)?)?;
+    if end > len {
+        return None;
+    }
+    Some(end)
+}
 
 // The exponent of the pivot of row k, 32 where the place has no row.
 pub(crate) fn exponent(table: &[u32], n: usize, k: usize) -> u32
-    requires room { ⌜ k * n + n ≤ length (now table) ⌝ }
+    requires room { ⌜ RowIn n k (now table) ⌝ }
     requires place { ⌜ k < n ⌝ }
     ensures is { λ r. ⌜ r ≡ exponent-at 32 n k (now (table .entry)) ⌝ }
     ensures most { λ r. ⌜ r ≤ 32 ⌝ }
@@ -24,7 +35,7 @@ pub(crate) fn exponent(table: &[u32], n: usize, k: usize) -> u32
 
 // The word at place k of a law, which is 0 before its lead: so much that row k comes to 0 with the law's first k + 1 words.
 pub(crate) fn extend(table: &[u32], n: usize, k: usize, lead: usize, law: &mut [u32])
-    requires room { ⌜ k * n + n ≤ length (now table) ⌝ }
+    requires room { ⌜ RowIn n k (now table) ⌝ }
     requires sized { ⌜ length (now law) ≡ n ⌝ }
     requires place { ⌜ k < n ⌝ }
     requires before { ⌜ lead ≤ k ⌝ }
@@ -41,7 +52,7 @@ pub(crate) fn extend(table: &[u32], n: usize, k: usize, lead: usize, law: &mut [
 // from it so often that place k becomes 0; or it takes the place of that row, and goes on as what is left of that. Whether
 // the table's row changed.
 pub(crate) fn insert_at(table: &mut [u32], n: usize, k: usize, row: &mut [u32]) -> bool
-    requires room { ⌜ k * n + n ≤ length (now table) ⌝ }
+    requires room { ⌜ RowIn n k (now table) ⌝ }
     requires sized { ⌜ length (now row) ≡ n ⌝ }
     requires place { ⌜ k < n ⌝ }
     requires some { ⌜ 0 < getD (now row) k 0 ⌝ }

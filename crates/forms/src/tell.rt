@@ -1,6 +1,7 @@
 //! The laws of the form of a table: the rows that come to 0 with all that it spans.
 use crate::table::exponent;
 use crate::table::extend;
+use crate::table::table_end;
 ghost use Prim.Native.Nat.{_+_, _*_, _-_, _<_, _≤_};
 ghost use mathlib.Core.Path.{_≡_};
 ghost use lib.ListN.{length};
@@ -14,13 +15,12 @@ ghost use Rattle.forms.specs.Laws.{law-to, Written, TellPost};
 pub fn tell(work: &[u32], at: usize, n: usize, rows: &mut [u32]) -> Option<usize>
     ensures { λ r. ⌜ TellPost at n (now (work .entry)) (now (rows .entry)) (now (rows .exit)) r ⌝ }
 {
-    let Some(size) = n.checked_mul(n) else {
-        return None;
-    };
-    if work.len() < size || work.len() - size < at || rows.len() < size {
+    let end = table_end(work.len(), at, n)?;
+    // as many words as the table has
+    if rows.len() < end - at {
         return None;
     }
-    Some(write_laws(&work[at..at + size], n, rows))
+    Some(write_laws(&work[at..end], n, rows))
 }
 
 // The laws of a table, row by row from the beginning of `rows`: for each place whose pivot is not 1 the law that has its

@@ -1,6 +1,6 @@
 use mathlib.Core.Path.{_≡_, ap, _∙_}
 use mathlib.Core.List.{List}
-use Prim.Native.Nat.{ℕ, _+_, _-_}
+use Prim.Native.Nat.{ℕ, _-_}
 use native.Mathlib.Omega.{arith}
 use borrow.Author.Needs.{needs}
 use lib.ListN.{length, replicate}
@@ -11,6 +11,7 @@ use Rattle.forms.proofs.clear.clear.Needs as need
 
 pub returns : need.returns
 returns c =
-    let len : length (part (c .args .at) (c .args .at + c .in-Some .size) (c .args .work .now)) ≡ c .args .at + c .in-Some .size - c .args .at = search (needs, places) in
-    cleared-at (c .args .n) (c .args .at) (c .in-Some .size) (c .args .work .now) _ (search needs) (omega arith)
+    let is = c .in-Some .ensures tt in
+    let len : length (part (c .args .at) (c .in-Some .end) (c .args .work .now)) ≡ c .in-Some .end - c .args .at = search (needs, places) in
+    cleared-at (c .args .n) (c .args .at) (c .in-Some .end) (c .args .work .now) _ (is .0) (is .1)
     (c .fill .ensures .after (λ y h. h) ∙ ap {A = ℕ} {B = List ℕ} (λ (z : ℕ). replicate z 0) len)

@@ -2,7 +2,7 @@ use mathlib.Core.Path.{_≡_, refl, sym, subst, _∙_}
 use Prim.Native.Nat.{ℕ, suc, _+_, _-_, _*_, _<_, _≤_}
 use native.Mathlib.Omega.{arith}
 use lib.ListN.{length}
-use Rattle.forms.proofs.Reading.{row-before}
+use Rattle.forms.proofs.Reading.{row-in}
 use Rattle.forms.proofs.Inserts.{Inserting, inserting-none, inserting-zeros, inserting-same, inserting-more, inserted}
 use Rattle.forms.proofs.insert.pass.Needs as need
 
@@ -12,7 +12,7 @@ places-holds c = inserting-none 32 (length (c .args .row .now)) (c .args .table 
 pub insert-at-requires : need.insert-at-requires
 insert-at-requires c κs =
     let h : c .loop-k .k - 1 < length (c .args .row .now) = omega (arith, c .places .inv .room) in
-    record { room = omega (arith, row-before (length (c .args .row .now)) (c .loop-k .k - 1) (length (c .args .row .now)) h); sized = omega arith; place = h; some = omega arith }
+    record { room = row-in (length (c .args .row .now)) (c .loop-k .k - 1) (c .places .table) (omega arith) h; sized = omega arith; place = h; some = omega arith }
 
 pub places-again-then-insert-at : need.places-again-then-insert-at
 places-again-then-insert-at c =

@@ -5,4 +5,5 @@ use Rattle.forms.proofs.tell.tell.Needs as need
 
 pub returns : need.returns
 returns c =
-    told-at (c .args .n) (c .args .at) (c .in-Some .size) (c .args .work .now) (c .args .rows .now) _ _ (search needs) (omega arith) (omega arith) (search needs) (c .write-laws .ensures)
+    let is = c .in-Continue-end .ensures tt in
+    told-at (c .args .n) (c .args .at) (c .in-Continue-end .end) (c .args .work .now) (c .args .rows .now) _ _ (is .0) (is .1) (omega arith) (search needs) (c .write-laws .ensures)

@@ -5,12 +5,12 @@ use native.Mathlib.Omega.{arith}
 use lib.ListN.{replicate}
 use Rattle.std.proofs.shelf.Bits.{one-shl}
 use Rattle.std.proofs.shelf.Lists.{length-set}
-use Rattle.forms.proofs.Reading.{row-before}
+use Rattle.forms.proofs.Reading.{row-in}
 use Rattle.forms.proofs.Telling.{law-start, law-step, law-end}
 use Rattle.forms.proofs.tell.write_law.Needs as need
 
 pub exponent-requires : need.exponent-requires
-exponent-requires c κs = record { room = omega (arith, row-before (c .args .n) (c .args .q) (c .args .n) (c .pre .place)); place = c .pre .place }
+exponent-requires c κs = record { room = row-in (c .args .n) (c .args .q) (c .args .table .now) (omega arith) (c .pre .place); place = c .pre .place }
 
 pub loop-k-holds : need.loop-k-holds
 loop-k-holds c =
@@ -21,7 +21,7 @@ loop-k-holds c =
 pub extend-requires : need.extend-requires
 extend-requires c κs =
     record {
-      room = omega (arith, row-before (c .args .n) (c .loop-k .k) (c .args .n) (c .loop-k-test .taken));
+      room = row-in (c .args .n) (c .loop-k .k) (c .args .table .now) (omega arith) (c .loop-k-test .taken);
       sized = c .loop-k .kept .law ∙ length-set _ _ _ ∙ c .fill .ensures .len ∙ c .pre .sized;
       place = c .loop-k-test .taken;
       before = omega arith;

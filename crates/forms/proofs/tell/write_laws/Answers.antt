@@ -4,15 +4,15 @@ use Prim.Native.Nat.{ℕ, _+_, _*_, _<_, _≤_}
 use native.Mathlib.Omega.{arith}
 use lib.ListN.{length}
 use Rattle.forms.specs.Laws.{Written}
-use Rattle.forms.proofs.Reading.{row-before}
-use Rattle.forms.proofs.Telling.{told, tell-told, told-none, told-zeros, told-turn, written-none}
+use Rattle.forms.proofs.Reading.{row-before, row-in}
+use Rattle.forms.proofs.Telling.{told, tell-told, told-start, told-zeros, told-turn}
 use Rattle.forms.proofs.tell.write_laws.Needs as need
 
 pub rows-holds : need.rows-holds
-rows-holds c = (subst (λ (x : List (List ℕ)). Written (c .args .n) x (c .args .rows .now) (c .args .rows .now) 0) (sym (told-none 32 (c .args .n) (c .args .table .now) (c .args .n))) (written-none (c .args .n) (c .args .rows .now)), omega arith, omega arith)
+rows-holds c = (told-start 32 (c .args .n) (c .args .table .now) (c .args .rows .now), omega arith, omega arith)
 
 pub exponent-requires : need.exponent-requires
-exponent-requires c κs = record { room = omega (arith, row-before (c .args .n) (c .loop-q .q) (c .args .n) (c .loop-q-test .taken)); place = c .loop-q-test .taken }
+exponent-requires c κs = record { room = row-in (c .args .n) (c .loop-q .q) (c .args .table .now) (omega arith) (c .loop-q-test .taken); place = c .loop-q-test .taken }
 
 -- there is room for one row more
 row-fits : (n count next q m : ℕ) → count ≤ next → next ≤ q → q < n → n * n ≤ m → count * n + n ≤ m
