@@ -2,12 +2,13 @@
 use mathlib.Core.Path.{_≡_, refl, sym, ap, ap₂, _∙_, subst}
 use mathlib.Core.List.{List, [], _∷_, _++_}
 use Prim.Native.Nat.{ℕ, zero, suc, _+_, _*_, _-_, _^_, _<_, _≤_}
+use native.Mathlib.Nat.{sub-zero}
 use native.Mathlib.Omega.{arith}
 use native.Mathlib.Numerals.{add-one}
 use borrow.Author.Needs.{needs}
 use borrow.Rule.Slice.PartMut.{putMid}
 use lib.ListN.{length, take, drop, getD, set, replicate}
-use Rattle.std.proofs.shelf.Lists.{append-nil, append-assoc, length-append, length-replicate, take-set, take-set-le, take-more-set, take-replicate, take-all, drop-drop}
+use Rattle.std.proofs.shelf.Lists.{places, length-set, take-at, append-nil, append-assoc, length-append, length-replicate, take-set, take-set-le, take-more-set, take-all, drop-drop}
 use Rattle.std.proofs.shelf.Parts.{take-putMid, drop-putMid}
 use Rattle.algebra.specs.Vec.{snoc, flip}
 use Rattle.algebra.specs.Form.{Slot, Form}
@@ -100,33 +101,49 @@ module _ (w n : ℕ) (ws : List ℕ) where
 
   -- the loop over the places behind the lead q: the words of the law c before the place k are written
   pub record Law (q k : ℕ) (c : List ℕ) : Type 0 where
+    pub sized : length c ≡ n
     pub zeros : take q c ≡ replicate q 0
     pub words : take k c ≡ law-to w n ws q (k - suc q)
 
-  pub law-start : (q y : ℕ) (c : List ℕ) → q < n → c ≡ replicate n 0 → y ≡ 2 ^ (w - exponent-at w n q ws) → Law q (q + 1) (set c q y)
+  -- noughts before the lead, and the lead
+  pub law-start : (q y : ℕ) (c z : List ℕ) → q < n → length c ≡ n → z ≡ replicate (q - 0) 0 → y ≡ 2 ^ (w - exponent-at w n q ws) → Law q (q + 1) (set (putMid 0 (q - 0) c z) q y)
   unfolding law-to
-  law-start q y c h is e = record {
-    zeros = take-set c q y ∙ ap (take q) is ∙ take-replicate q n 0 (omega arith);
+  law-start q y c z h len is e = record {
+    sized = length-set d q y ∙ len-d;
+    zeros = take-set d q y ∙ front;
     words =
-        take-more-set c q y (let l = ap length is ∙ length-replicate {A = ℕ} n 0 in omega arith)
-        ∙ ap₂ (λ (a : List ℕ) (b : ℕ). a ++ (b ∷ [])) (ap (take q) is ∙ take-replicate q n 0 (omega arith)) e
+        take-more-set d q y (omega (arith, len-d))
+        ∙ ap₂ (λ (a : List ℕ) (b : ℕ). a ++ (b ∷ [])) front e
         ∙ sym (snoc-append (replicate q 0) (2 ^ (w - exponent-at w n q ws)))
-        ∙ ap (law-to w n ws q) (let z : 0 ≡ q + 1 - suc q = omega arith in z);
+        ∙ ap (law-to w n ws q) (let i : 0 ≡ q + 1 - suc q = omega arith in i);
   }
+    where
+      d : List ℕ
+      d = putMid 0 (q - 0) c z
 
-  pub law-step : (q k : ℕ) (c d : List ℕ) → q < k → k < length c → d ≡ set c k (extra w (slot-at w n k ws) (take k c)) → Law q k c → Law q (k + 1) d
+      z-is : z ≡ replicate q 0
+      z-is = is ∙ ap {A = ℕ} {B = List ℕ} (λ (x : ℕ). replicate x 0) (sub-zero q)
+
+      len-d : length d ≡ n
+      len-d = let l = ap length z-is ∙ length-replicate {A = ℕ} q 0 in (search (needs, places))
+
+      front : take q d ≡ replicate q 0
+      front = take-at z (drop (q - 0) c) q (ap length z-is ∙ length-replicate q 0) ∙ z-is
+
+  pub law-step : (q k : ℕ) (c d : List ℕ) → q < k → k < n → d ≡ set c k (extra w (slot-at w n k ws) (take k c)) → Law q k c → Law q (k + 1) d
   law-step q k c d h l is inv = record {
+    sized = ap length is ∙ length-set c k (extra w (slot-at w n k ws) (take k c)) ∙ inv .sized;
     zeros = ap (take q) is ∙ take-set-le q c k (extra w (slot-at w n k ws) (take k c)) (omega arith) ∙ inv .zeros;
     words =
         ap (take (k + 1)) is
-        ∙ take-more-set c k (extra w (slot-at w n k ws) (take k c)) l
+        ∙ take-more-set c k (extra w (slot-at w n k ws) (take k c)) (omega (arith, inv .sized))
         ∙ sym (snoc-append (take k c) (extra w (slot-at w n k ws) (take k c)))
         ∙ ap (λ (x : List ℕ). snoc x (extra w (slot-at w n k ws) x)) (inv .words)
         ∙ law-more q k h ∙ ap (law-to w n ws q) (let e : k - q ≡ k + 1 - suc q = omega arith in e);
   }
 
-  pub law-end : (q k : ℕ) (c : List ℕ) → length c ≡ n → k ≡ n → Law q k c → c ≡ law-to w n ws q (n - 1 - q)
-  law-end q k c l e inv = sym (take-all k c (omega arith)) ∙ inv .words ∙ ap (law-to w n ws q) (let z : k - suc q ≡ n - 1 - q = omega arith in z)
+  pub law-end : (q k : ℕ) (c : List ℕ) → k ≡ n → Law q k c → c ≡ law-to w n ws q (n - 1 - q)
+  law-end q k c e inv = sym (take-all k c (omega (arith, inv .sized))) ∙ inv .words ∙ ap (law-to w n ws q) (let z : k - suc q ≡ n - 1 - q = omega arith in z)
 
 -- rows written one behind the other
 flat-push : (rs : List (List ℕ)) (r : List ℕ) → flat (rs ++ (r ∷ [])) ≡ flat rs ++ r

@@ -59,7 +59,7 @@ fn write_law(table: &[u32], n: usize, q: usize, law: &mut [u32])
     requires some { ⌜ 0 < exponent-at 32 n q (now table) ⌝ }
     ensures { λ _. ⌜ now (law .exit) ≡ law-to 32 n (now (table .entry)) q (n - 1 - q) ⌝ }
 {
-    law.fill(0);
+    law[0..q].fill(0);
     law[q] = 1 << (32 - exponent(table, n, q));
     for k in q + 1..n {
         extend(table, n, k, q, law);
