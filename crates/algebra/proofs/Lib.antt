@@ -18,6 +18,7 @@ pub mod Growth
 -- the annihilator of a form and of rows
 pub mod Tell
 pub mod Annihilators
+pub mod Unchanged
 -- linear maps and systems
 pub mod Maps
 pub mod Generated

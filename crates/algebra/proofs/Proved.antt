@@ -5,6 +5,7 @@ use Rattle.algebra.proofs.Insert.{fine-insert, weight-insert}
 use Rattle.algebra.proofs.FormSpans.{span-insert, howell-insert}
 use Rattle.algebra.proofs.Insertions.{weight-fine, made-fine, made-howell}
 use Rattle.algebra.proofs.Tell.{best-tell}
+use Rattle.algebra.proofs.Unchanged.{unchanged-spanned}
 use Rattle.algebra.proofs.Annihilators.{double, told-enough, best-annihilator, ann-ann, best-howell}
 use Rattle.algebra.proofs.Maps.{made-spans, span-closed, length-annihilator, length-howell}
 use Rattle.algebra.proofs.Growth.{grows-so-often}
@@ -19,6 +20,7 @@ inserting = record {
   howell = λ w n f v well h fv. (fine-insert w well v fv, howell-insert w well h v fv);
   falls = weight-insert;
   bounded = λ w n f well. weight-fine w well;
+  unchanged = unchanged-spanned;
   rows = λ w n vs fits. (made-fine w n vs fits, made-howell w n vs fits, made-spans w n vs fits);
   grows = grows-so-often;
 }

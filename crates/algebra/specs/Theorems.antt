@@ -31,6 +31,8 @@ pub record Inserting : Type 0 where
   -- nothing changes, or the sum of the exponents falls, which is at most w for each place
   pub falls : (w : ℕ) (f : Form) (v : List ℕ) → (insert w f v ≡ f) ⊎ (weight (insert w f v) < weight f)
   pub bounded : (w n : ℕ) (f : Form) → WellFormed w n f → weight f ≤ w * n
+  -- nothing changes exactly if the form spans the vector already
+  pub unchanged : (w n : ℕ) (f : Form) (v : List ℕ) → WellFormed w n f → Howell w f → Fit w n v → (insert w f v ≡ f) ↔ In w f v
   -- the form of any rows, inserted one after the other, spans their sums
   pub rows : (w n : ℕ) (vs : List (List ℕ)) → Each (Fit w n) vs
       → WellFormed w n (form-of w n vs) × Howell w (form-of w n vs) × ((u : List ℕ) → Fit w n u → In w (form-of w n vs) u ↔ Span w n vs u)

@@ -4,18 +4,20 @@ use mathlib.Core.Logic.{_↔_}
 use mathlib.Core.List.{List}
 use Prim.Native.Nat.{ℕ, _+_, _*_, _-_, _^_, _<_, _≤_}
 use native.Mathlib.Omega.{arith}
+use borrow.Author.Needs.{needs}
 use borrow.Rule.Slice.PartMut.{putMid}
 use lib.ListN.{length, take, drop, getD}
+use Rattle.std.proofs.shelf.Lists.{places}
 use Rattle.std.proofs.shelf.Parts.{between-putMid, take-putMid-below, drop-putMid}
 use Rattle.algebra.specs.Vec.{less, flip}
 use Rattle.algebra.specs.Span.{Fit}
-use Rattle.algebra.specs.Form.{Form, insert, WellFormed, In, Howell}
+use Rattle.algebra.specs.Form.{Form, insert, WellFormed, In, Howell, weight}
 use Rattle.algebra.proofs.LastPlace.{fit-flip}
 use Rattle.algebra.proofs.Proved.{algebra}
 use Rattle.forms.specs.Flat.{part, read, table-at, form-at}
 use Rattle.forms.specs.Meaning.{Spans, HowellAt}
 use Rattle.forms.specs.Insertion.{Inserted, Grown, InsertedAt}
-use Rattle.forms.proofs.Reading.{fit-words, fine-form}
+use Rattle.forms.proofs.Reading.{slot-same, read-same, fit-words, fine-form}
 use Rattle.forms.proofs.Turns.{flip-less}
 
 module _ (w n : ℕ) (f : Form) (v : List ℕ) (well : WellFormed w n f) (fit : Fit w n v) where
@@ -42,6 +44,7 @@ module _ (n at : ℕ) (s t v os ps : List ℕ) (count : ℕ) (room : at + n * n 
       spans = λ u fu. subst (λ (x : Form). In 32 x (flip u) ↔ ((k : ℕ) × Spans 32 n at s (less 32 u k v))) (sym form) (grown-spans 32 n (form-at 32 n at s) v well fit u fu);
       howell = λ h. subst (Howell 32) (sym form) (grown-howell 32 n (form-at 32 n at s) v well fit h);
     };
+    spanned = spanned;
     before = take-putMid-below at (at + n * n - at) s t at (omega arith) (omega arith);
     behind = drop-putMid at (at + n * n - at) s t (at + n * n) (omega arith) (omega arith) (omega (arith, len-t));
     theory = algebra .inserting;
@@ -58,6 +61,19 @@ module _ (n at : ℕ) (s t v os ps : List ℕ) (count : ℕ) (room : at + n * n 
 
       well : WellFormed 32 n (form-at 32 n at s)
       well = fine-form 32 n at s room small-s
+
+      len-s : length (table-at n at s) ≡ n * n
+      len-s = search (needs, places)
+
+      -- no row told, so all rows are as they were
+      same : count ≡ 0 → read 32 n n t ≡ form-at 32 n at s
+      same z = read-same 32 n n t (table-at n at s) (λ q h. slot-same 32 n q t (table-at n at s) (len-t ∙ sym len-s) h (g .changed .kept q h (λ j b is. omega arith)))
+
+      spanned : HowellAt 32 n at s → (count ≡ 0) ↔ Spans 32 n at s v
+      spanned h = (λ z. either .0 (sym (g .form) ∙ same z), λ i. (let e = ap weight (g .form ∙ either .1 i) in omega (arith, g .changed .sum)))
+        where
+          either : (insert 32 (form-at 32 n at s) (flip v) ≡ form-at 32 n at s) ↔ Spans 32 n at s v
+          either = algebra .inserting .unchanged 32 n (form-at 32 n at s) (flip v) well h (fit-flip 32 fit)
 
 -- where the code has the end of the table under a name
 pub inserted-part : (n at end : ℕ) (s t v os ps : List ℕ) (count : ℕ) → end ≡ at + n * n → end ≤ length s → n ≤ length os → length v ≡ n → length t ≡ end - at

@@ -56,6 +56,8 @@ pub record InsertedAt (n at : ℕ) (s t v os ps : List ℕ) (count : ℕ) : Type
   pub room : (at + n * n ≤ length s) × (n ≤ length os)
   pub here : Inserted 32 n (table-at n at s) v (table-at n at t) os ps count
   pub grown : Grown 32 n at s t v
+  -- no row changes exactly if the row v is a sum of the table's rows
+  pub spanned : HowellAt 32 n at s → (count ≡ 0) ↔ Spans 32 n at s v
   -- all other words are as they were
   pub before : take at t ≡ take at s
   pub behind : drop (at + n * n) t ≡ drop (at + n * n) s
