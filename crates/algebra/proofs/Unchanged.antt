@@ -5,7 +5,7 @@ use mathlib.Core.List.{List, [], _∷_}
 use Prim.Native.Nat.{ℕ, zero, suc, _+_, _*_, _%_, _/_, _-_, _^_, _≤_}
 use native.Mathlib.Nat.{pow-suc}
 use native.Mathlib.Omega.{arith}
-use lib.Count.{trailingZeros, under}
+use lib.Count.{trailingZeros}
 use Rattle.algebra.specs.Vec.{less}
 use Rattle.algebra.specs.Span.{Fit}
 use Rattle.algebra.specs.Form.{slot, Form, insert, WellFormed, no-slots, slot-on, In, Howell}

@@ -4,7 +4,7 @@ use mathlib.Core.List.{List, _∷_}
 use Prim.Native.Nat.{ℕ, zero, suc, _+_, _*_, _-_, _≤_}
 use native.Mathlib.Omega.{arith}
 use borrow.Rule.Slice.PartMut.{putMid}
-use lib.ListN.{length, take, drop, getD, replicate}
+use lib.ListN.{length, take, getD, replicate}
 use lib.Count.{trailingZeros, trailing-of-zero}
 use Rattle.std.proofs.shelf.Lists.{length-replicate, take-replicate, drop-replicate}
 use Rattle.std.proofs.shelf.Parts.{between-putMid, take-putMid-below, drop-putMid}

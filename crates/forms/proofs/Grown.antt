@@ -1,12 +1,12 @@
 -- what an insertion means, and a table as a part of larger words
-use mathlib.Core.Path.{_≡_, refl, sym, ap, _∙_, subst}
+use mathlib.Core.Path.{_≡_, sym, ap, _∙_, subst}
 use mathlib.Core.Logic.{_↔_}
 use mathlib.Core.List.{List}
-use Prim.Native.Nat.{ℕ, _+_, _*_, _-_, _^_, _<_, _≤_}
+use Prim.Native.Nat.{ℕ, _+_, _*_, _-_, _<_, _≤_}
 use native.Mathlib.Omega.{arith}
 use borrow.Author.Needs.{needs}
 use borrow.Rule.Slice.PartMut.{putMid}
-use lib.ListN.{length, take, drop, getD}
+use lib.ListN.{length, getD}
 use Rattle.std.proofs.shelf.Lists.{places}
 use Rattle.std.proofs.shelf.Parts.{between-putMid, take-putMid-below, drop-putMid}
 use Rattle.algebra.specs.Vec.{less, flip}
@@ -16,7 +16,7 @@ use Rattle.algebra.proofs.LastPlace.{fit-flip}
 use Rattle.algebra.proofs.Proved.{algebra}
 use Rattle.forms.specs.Flat.{part, read, table-at, form-at}
 use Rattle.forms.specs.Meaning.{Spans, HowellAt}
-use Rattle.forms.specs.Insertion.{Inserted, Grown, InsertedAt}
+use Rattle.forms.specs.Insertion.{Inserted, InsertedAt}
 use Rattle.forms.proofs.Reading.{slot-same, read-same, fit-words, fine-form}
 use Rattle.forms.proofs.Turns.{flip-less}
 

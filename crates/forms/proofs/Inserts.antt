@@ -1,17 +1,17 @@
 -- a row inserted into a table: what the loop over the places keeps
 use mathlib.Core.Path.{_≡_, refl, sym, ap, ap₂, _∙_, subst}
-use mathlib.Core.Logic.{_≢_, _⊎_, inl, inr}
+use mathlib.Core.Logic.{_≢_, inl, inr}
 use mathlib.Core.Bool.{Bool, true, false}
 use mathlib.Core.List.{List, [], _∷_, _++_, append-assoc}
 use Prim.Native.Nat.{ℕ, zero, suc, _+_, _*_, _-_, _^_, _<_, _≤_}
-use native.Mathlib.Nat.{add-zero, sub-self}
+use native.Mathlib.Nat.{sub-self}
 use native.Mathlib.Omega.{arith}
 use lib.ListN.{length, take, getD, set}
 use lib.Count.{trailingZeros}
 use Rattle.std.proofs.shelf.Lists.{getD-set-same, getD-set-other, take-all, append-nil}
 use Rattle.std.proofs.shelf.Tests.{cases-eq}
 use Rattle.algebra.specs.Vec.{flip}
-use Rattle.algebra.specs.Form.{Slot, Form, insert, weight}
+use Rattle.algebra.specs.Form.{Form, insert, weight}
 use Rattle.forms.specs.Flat.{row-at, word-at, pivot-at, exponent-at, slot-at, read}
 use Rattle.forms.specs.Insertion.{Turned, Changed, Inserted}
 use Rattle.forms.proofs.Reading.{row-before, row-word, exponent-same, slot-same, read-same, slots, slots-same, slots-more, slots-read, weight-falls}

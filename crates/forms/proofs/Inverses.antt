@@ -1,9 +1,8 @@
 -- inverses of odd numbers, from a start that is right modulo 8
-use mathlib.Core.Path.{_≡_, refl, sym, ap, _∙_}
+use mathlib.Core.Path.{_≡_, refl, ap, _∙_}
 use mathlib.Core.Logic.{_⊎_, inl, inr}
 use Prim.Native.Nat.{ℕ, zero, suc, _+_, _*_, _%_, _/_, _-_, _^_, _<_}
 use native.Mathlib.Omega.{arith}
-use native.Mathlib.Nat.{div-add-mod}
 use Rattle.algebra.specs.Vec.{neg}
 use Rattle.algebra.specs.Inverse.{newton, rounds, inverse}
 use Rattle.algebra.proofs.Modular.{sub-wraps}

@@ -1,14 +1,14 @@
 -- forms read from tables: what equal words give, and a form cut at a place
 use mathlib.Core.Path.{_≡_, refl, sym, ap, ap₂, _∙_}
-use mathlib.Core.Logic.{_≢_, _⊎_, inl, inr}
+use mathlib.Core.Logic.{_≢_, inl, inr}
 use mathlib.Core.List.{List, [], _∷_, _++_}
 use Prim.Native.Nat.{ℕ, zero, suc, _+_, _*_, _-_, _^_, _<_, _≤_}
 use native.Mathlib.Nat.{zero-add, suc-add, add-suc, mul-le-mul-right}
 use native.Mathlib.Omega.{arith}
 use borrow.Author.Needs.{needs}
-use lib.ListN.{length, take, drop, getD}
+use lib.ListN.{length, drop, getD}
 use lib.Count.{trailingZeros, trailing-le}
-use lib.Dec.{T, lit<}
+use lib.Dec.{T}
 use lib.Pow.{pow-pos}
 use Rattle.std.proofs.shelf.Lists.{places, ext-getD, getD-take, getD-drop, getD-past}
 use Rattle.std.proofs.shelf.Tests.{cases-lt, cases-eq}
@@ -17,7 +17,7 @@ use Rattle.algebra.specs.Span.{Fit}
 use Rattle.algebra.specs.Form.{Slot, slot, Form, WellFormed, no-slots, slot-on, weight}
 use Rattle.algebra.proofs.Vec.{below-cons}
 use Rattle.algebra.proofs.LastPlace.{fit-flip}
-use Rattle.forms.specs.Flat.{part, row-at, word-at, RowIn, exponent-at, entries-at, slot-at, read, table-at, form-at}
+use Rattle.forms.specs.Flat.{part, row-at, word-at, RowIn, exponent-at, slot-at, read, table-at, form-at}
 
 -- rows stand one behind the other
 pub row-before : (n p q : ℕ) → p < q → p * n + n ≤ q * n

@@ -1,13 +1,13 @@
 -- the rows told of a table are the rows of its laws
-use mathlib.Core.Path.{_≡_, refl, sym, ap, _∙_, subst}
+use mathlib.Core.Path.{_≡_, sym, ap, _∙_, subst}
 use mathlib.Core.List.{List}
-use Prim.Native.Nat.{ℕ, _+_, _*_, _-_, _^_, _<_, _≤_}
+use Prim.Native.Nat.{ℕ, _+_, _*_, _-_, _<_, _≤_}
 use native.Mathlib.Omega.{arith}
 use lib.ListN.{length, getD}
 use Rattle.algebra.specs.Vec.{plus, times, dot, flip}
 use Rattle.algebra.specs.Rows.{Best}
-use Rattle.algebra.specs.Span.{Fit, Closed, Each}
-use Rattle.algebra.specs.Form.{Form, WellFormed, In, Howell}
+use Rattle.algebra.specs.Span.{Closed}
+use Rattle.algebra.specs.Form.{Form, WellFormed, In}
 use Rattle.algebra.specs.Tell.{tell, Annihilates}
 use Rattle.algebra.proofs.Modular.{mods, by-zero}
 use Rattle.algebra.proofs.Vec.{dot-comm}

@@ -7,11 +7,10 @@ use native.Mathlib.Omega.{arith}
 use native.Mathlib.Numerals.{add-one}
 use borrow.Author.Needs.{needs}
 use borrow.Rule.Slice.PartMut.{putMid}
-use lib.ListN.{length, take, drop, getD, set, replicate}
+use lib.ListN.{length, take, drop, set, replicate}
 use Rattle.std.proofs.shelf.Lists.{places, length-set, take-at, append-nil, append-assoc, length-append, length-replicate, take-set, take-set-le, take-more-set, take-all, drop-drop}
 use Rattle.std.proofs.shelf.Parts.{take-putMid, drop-putMid}
-use Rattle.algebra.specs.Vec.{snoc, flip}
-use Rattle.algebra.specs.Form.{Slot, Form}
+use Rattle.algebra.specs.Vec.{snoc}
 use Rattle.algebra.specs.Tell.{extra, extend, final, tell}
 use Rattle.algebra.proofs.LastPlace.{length-snoc}
 use Rattle.forms.specs.Flat.{exponent-at, slot-at, read}

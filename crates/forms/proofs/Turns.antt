@@ -1,8 +1,8 @@
 -- a row inserted at one place of a table
 use mathlib.Core.Path.{_≡_, refl, sym, ap, ap₂, _∙_, subst}
 use mathlib.Core.Logic.{_≢_, _⊎_, inl, inr}
-use mathlib.Core.Bool.{Bool, true, false}
-use mathlib.Core.List.{List, [], _∷_, _++_}
+use mathlib.Core.Bool.{true, false}
+use mathlib.Core.List.{List, [], _∷_}
 use Prim.Native.Nat.{ℕ, zero, suc, _+_, _*_, _-_, _/_, _%_, _^_, _<_, _≤_}
 use native.Mathlib.Nat.{le-of-suc-le-suc, zero-div, sub-zero, zero-add, mod-eq-of-lt}
 use native.Mathlib.Omega.{arith}
@@ -11,7 +11,7 @@ use borrow.Rule.Slice.PartMut.{putMid}
 use lib.ListN.{length, take, drop, getD, set}
 use lib.Count.{trailingZeros, trailing-le, trailing-of-zero}
 use lib.Pow.{pow-lt}
-use Rattle.std.proofs.shelf.Lists.{places, same-lists, getD-set-same, getD-set-other, length-set, take-at, take-set, take-set-le, length-take-le, getD-take}
+use Rattle.std.proofs.shelf.Lists.{places, getD-set-same, getD-set-other, length-set, take-at, take-set, length-take-le}
 use Rattle.std.proofs.shelf.Tests.{cases-lt}
 use Rattle.std.proofs.shelf.Parts.{between-is, between-putMid}
 use Rattle.algebra.specs.Vec.{neg, plus, times, less, snoc, flip}

@@ -1,6 +1,6 @@
 -- How lent words are read as a Howell form. A table of n places is n rows of n words, one behind the other: row k begins at
 -- the word k * n, has its pivot at its place k and its entries at the places before that. What stands behind the pivot is
--- not read. No other file, and no code but src/table.rt, knows this.
+-- not read. No other definition, and no code but src/table.rt, knows this.
 use mathlib.Core.Path.{_≡_}
 use mathlib.Core.List.{List, [], _∷_}
 use Prim.Native.Nat.{ℕ, zero, suc, _+_, _*_, _-_, _≤_}

@@ -1,6 +1,5 @@
-use Prim.Native.Nat.{ℕ, zero, suc, _+_, _*_, _<_, _≤_}
+use Prim.Native.Nat.{ℕ, zero, suc, _*_, _≤_}
 use native.Mathlib.Omega.{arith}
-use borrow.Author.Needs.{needs}
 use Rattle.bench.proofs.forms_tell.Needs as need
 
 below-square : (n m : ℕ) → n * n ≤ m → n ≤ m

@@ -1,9 +1,9 @@
-use mathlib.Core.Path.{_≡_, refl, sym, subst, _∙_}
-use Prim.Native.Nat.{ℕ, suc, _+_, _-_, _*_, _<_, _≤_}
+use mathlib.Core.Path.{refl, _∙_}
+use Prim.Native.Nat.{suc, _-_, _<_}
 use native.Mathlib.Omega.{arith}
 use lib.ListN.{length}
 use Rattle.forms.proofs.Reading.{row-in}
-use Rattle.forms.proofs.Inserts.{Inserting, inserting-none, inserting-zeros, inserting-same, inserting-more, inserted}
+use Rattle.forms.proofs.Inserts.{inserting-none, inserting-zeros, inserting-same, inserting-more, inserted}
 use Rattle.forms.proofs.insert.pass.Needs as need
 
 pub places-holds : need.places-holds

@@ -1,4 +1,3 @@
-use mathlib.Core.Path.{_≡_}
 use lib.ListN.{take}
 use Rattle.forms.proofs.Cancels.{extra-at, sum-from}
 use Rattle.forms.proofs.table.extend.Needs as need

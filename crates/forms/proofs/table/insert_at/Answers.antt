@@ -1,12 +1,11 @@
 use mathlib.Core.Path.{_≡_, ap, _∙_}
-use Prim.Native.Nat.{ℕ, _+_, _*_, _-_, _%_, _^_, _≤_}
+use Prim.Native.Nat.{ℕ, _+_, _*_, _%_, _^_, _≤_}
 use native.Mathlib.Omega.{arith}
 use lib.Count.{trailing-le}
 use lib.ListN.{getD}
 use Rattle.std.proofs.shelf.Bits.{one-shl}
 use Rattle.algebra.specs.Vec.{neg}
 use Rattle.algebra.proofs.Units.{odd-rest}
-use Rattle.forms.specs.Flat.{exponent-at}
 use Rattle.forms.proofs.Turns.{turned-new, turned-keep}
 use Rattle.forms.proofs.table.insert_at.Needs as need
 

@@ -1,7 +1,6 @@
 use mathlib.Core.Path.{_≡_, _∙_, ap}
-use Prim.Native.Nat.{ℕ, _+_, _-_, _*_, _%_, _^_}
+use Prim.Native.Nat.{ℕ, _+_, _-_, _%_}
 use native.Mathlib.Omega.{arith}
-use Rattle.algebra.specs.Vec.{neg}
 use Rattle.algebra.proofs.Modular.{sub-wraps}
 use Rattle.forms.proofs.words.negate.Needs as need
 
