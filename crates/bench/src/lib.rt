@@ -13,7 +13,7 @@ const REFUSED: usize = usize::MAX;
 
 #[unsafe(no_mangle)]
 pub extern "C" fn forms_clear(work: &mut [u32], at: usize, n: usize) -> bool
-    ensures { λ r. ⌜ ClearPost at n (now (work .entry)) (now (work .exit)) r ⌝ }
+    ensures { λ r. ⌜ ClearPost 32 at n (now (work .entry)) (now (work .exit)) r ⌝ }
 {
     clear(work, at, n)
 }
@@ -25,8 +25,8 @@ pub extern "C" fn forms_insert(
     row: &mut [u32],
     changed: &mut [usize],
 ) -> usize
-    ensures refused { λ r. ⌜ (r ≡ 18446744073709551615 → InsertPost at (now (work .entry)) (now (work .exit)) (now (row .entry)) (now (row .exit)) (now (changed .entry)) (now (changed .exit)) None) ⌝ }
-    ensures done { λ r. ⌜ (r < 18446744073709551615 → InsertPost at (now (work .entry)) (now (work .exit)) (now (row .entry)) (now (row .exit)) (now (changed .entry)) (now (changed .exit)) (Some r)) ⌝ }
+    ensures refused { λ r. ⌜ (r ≡ 18446744073709551615 → InsertPost 32 at (now (work .entry)) (now (work .exit)) (now (row .entry)) (now (row .exit)) (now (changed .entry)) (now (changed .exit)) None) ⌝ }
+    ensures done { λ r. ⌜ (r < 18446744073709551615 → InsertPost 32 at (now (work .entry)) (now (work .exit)) (now (row .entry)) (now (row .exit)) (now (changed .entry)) (now (changed .exit)) (Some r)) ⌝ }
 {
     match insert(work, at, row, changed) {
         Some(count) => count,
@@ -36,8 +36,8 @@ pub extern "C" fn forms_insert(
 
 #[unsafe(no_mangle)]
 pub extern "C" fn forms_tell(work: &[u32], at: usize, n: usize, rows: &mut [u32]) -> usize
-    ensures refused { λ r. ⌜ (r ≡ 18446744073709551615 → TellPost at n (now (work .entry)) (now (rows .entry)) (now (rows .exit)) None) ⌝ }
-    ensures done { λ r. ⌜ (r < 18446744073709551615 → TellPost at n (now (work .entry)) (now (rows .entry)) (now (rows .exit)) (Some r)) ⌝ }
+    ensures refused { λ r. ⌜ (r ≡ 18446744073709551615 → TellPost 32 at n (now (work .entry)) (now (rows .entry)) (now (rows .exit)) None) ⌝ }
+    ensures done { λ r. ⌜ (r < 18446744073709551615 → TellPost 32 at n (now (work .entry)) (now (rows .entry)) (now (rows .exit)) (Some r)) ⌝ }
 {
     match tell(work, at, n, rows) {
         Some(count) => count,

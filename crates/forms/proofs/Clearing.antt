@@ -32,13 +32,13 @@ read-zeros w n (suc k) h =
     (ap₂ {A = ℕ} {B = List ℕ} {C = Slot} slot (ap (trailingZeros w) (zero-at (n * n) (k * n + k)) ∙ trailing-of-zero w) (ap flip (part-zeros (k * n) k (n * n) (let b = row-before n k n h in omega arith)) ∙ flip-zero k))
     (read-zeros w n k (omega arith))
 
-pub cleared-at : (n at end : ℕ) (s t : List ℕ) → end ≡ at + n * n → end ≤ length s → t ≡ replicate (end - at) 0 → ClearedAt n at s (putMid at (end - at) s t)
-cleared-at n at end s t is room zeros = subst (λ (z : ℕ). ClearedAt n at s (putMid at (z - at) s t)) (sym is) (record {
+pub cleared-at : (w n at end : ℕ) (s t : List ℕ) → end ≡ at + n * n → end ≤ length s → t ≡ replicate (end - at) 0 → ClearedAt w n at s (putMid at (end - at) s t)
+cleared-at w n at end s t is room zeros = subst (λ (z : ℕ). ClearedAt w n at s (putMid at (z - at) s t)) (sym is) (record {
   room = omega arith;
   words = words;
   form = form;
-  howell = subst (Howell 32) (sym form) (howell-nothing 32 n);
-  spans = λ u fu i. sym (flip-flip u) ∙ ap flip (in-nothing 32 n (flip u) (fit-flip 32 fu) (subst (λ (f : Form). In 32 f (flip u)) form i)) ∙ flip-zero n;
+  howell = subst (Howell w) (sym form) (howell-nothing w n);
+  spans = λ u fu i. sym (flip-flip u) ∙ ap flip (in-nothing w n (flip u) (fit-flip w fu) (subst (λ (f : Form). In w f (flip u)) form i)) ∙ flip-zero n;
   before = take-putMid-below at (at + n * n - at) s t at (omega arith) (omega arith);
   behind = drop-putMid at (at + n * n - at) s t (at + n * n) (omega arith) (omega arith) (omega (arith, len));
 })
@@ -52,5 +52,5 @@ cleared-at n at end s t is room zeros = subst (λ (z : ℕ). ClearedAt n at s (p
     words : table-at n at (putMid at (at + n * n - at) s t) ≡ replicate (n * n) 0
     words = between-putMid at (at + n * n - at) s t (at + n * n) (omega arith) (omega (arith, len)) ∙ t-is
 
-    form : form-at 32 n at (putMid at (at + n * n - at) s t) ≡ nothing 32 n
-    form = ap (read 32 n n) words ∙ read-zeros 32 n n (omega arith)
+    form : form-at w n at (putMid at (at + n * n - at) s t) ≡ nothing w n
+    form = ap (read w n n) words ∙ read-zeros w n n (omega arith)

@@ -2,7 +2,7 @@
 use mathlib.Core.Path.{_≡_, sym, ap, _∙_, subst}
 use mathlib.Core.Logic.{_↔_}
 use mathlib.Core.List.{List}
-use Prim.Native.Nat.{ℕ, _+_, _*_, _-_, _<_, _≤_}
+use Prim.Native.Nat.{ℕ, _+_, _*_, _-_, _^_, _<_, _≤_}
 use native.Mathlib.Omega.{arith}
 use borrow.Author.Needs.{needs}
 use borrow.Rule.Slice.PartMut.{putMid}
@@ -34,15 +34,15 @@ module _ (w n : ℕ) (f : Form) (v : List ℕ) (well : WellFormed w n f) (fit : 
   grown-howell h = algebra .inserting .howell w n f (flip v) well h (fit-flip w fit) .1
 
 -- the part of larger words that was handed on as a table
-module _ (n at : ℕ) (s t v os ps : List ℕ) (count : ℕ) (room : at + n * n ≤ length s) (list : n ≤ length os) (len-v : length v ≡ n) (len-t : length t ≡ n * n)
-    (small-s : (i : ℕ) → getD s i 0 < 4294967296) (small-v : (i : ℕ) → getD v i 0 < 4294967296) where
-  pub inserted-at : Inserted 32 n (table-at n at s) v t os ps count → InsertedAt n at s (putMid at (at + n * n - at) s t) v os ps count
+module _ (w n at : ℕ) (s t v os ps : List ℕ) (count : ℕ) (room : at + n * n ≤ length s) (list : n ≤ length os) (len-v : length v ≡ n) (len-t : length t ≡ n * n)
+    (small-s : (i : ℕ) → getD s i 0 < 2 ^ w) (small-v : (i : ℕ) → getD v i 0 < 2 ^ w) where
+  pub inserted-at : Inserted w n (table-at n at s) v t os ps count → InsertedAt w n at s (putMid at (at + n * n - at) s t) v os ps count
   inserted-at g = record {
     room = (room, list);
-    here = subst (λ (x : List ℕ). Inserted 32 n (table-at n at s) v x os ps count) (sym table) g;
+    here = subst (λ (x : List ℕ). Inserted w n (table-at n at s) v x os ps count) (sym table) g;
     grown = record {
-      spans = λ u fu. subst (λ (x : Form). In 32 x (flip u) ↔ ((k : ℕ) × Spans 32 n at s (less 32 u k v))) (sym form) (grown-spans 32 n (form-at 32 n at s) v well fit u fu);
-      howell = λ h. subst (Howell 32) (sym form) (grown-howell 32 n (form-at 32 n at s) v well fit h);
+      spans = λ u fu. subst (λ (x : Form). In w x (flip u) ↔ ((k : ℕ) × Spans w n at s (less w u k v))) (sym form) (grown-spans w n (form-at w n at s) v well fit u fu);
+      howell = λ h. subst (Howell w) (sym form) (grown-howell w n (form-at w n at s) v well fit h);
     };
     spanned = spanned;
     before = take-putMid-below at (at + n * n - at) s t at (omega arith) (omega arith);
@@ -53,32 +53,32 @@ module _ (n at : ℕ) (s t v os ps : List ℕ) (count : ℕ) (room : at + n * n 
       table : table-at n at (putMid at (at + n * n - at) s t) ≡ t
       table = between-putMid at (at + n * n - at) s t (at + n * n) (omega arith) (omega (arith, len-t))
 
-      form : form-at 32 n at (putMid at (at + n * n - at) s t) ≡ insert 32 (form-at 32 n at s) (flip v)
-      form = ap (read 32 n n) table ∙ g .form
+      form : form-at w n at (putMid at (at + n * n - at) s t) ≡ insert w (form-at w n at s) (flip v)
+      form = ap (read w n n) table ∙ g .form
 
-      fit : Fit 32 n v
-      fit = fit-words 32 n v len-v small-v
+      fit : Fit w n v
+      fit = fit-words w n v len-v small-v
 
-      well : WellFormed 32 n (form-at 32 n at s)
-      well = fine-form 32 n at s room small-s
+      well : WellFormed w n (form-at w n at s)
+      well = fine-form w n at s room small-s
 
       len-s : length (table-at n at s) ≡ n * n
       len-s = search (needs, places)
 
       -- no row told, so all rows are as they were
-      same : count ≡ 0 → read 32 n n t ≡ form-at 32 n at s
-      same z = read-same 32 n n t (table-at n at s) (λ q h. slot-same 32 n q t (table-at n at s) (len-t ∙ sym len-s) h (g .changed .kept q h (λ j b is. omega arith)))
+      same : count ≡ 0 → read w n n t ≡ form-at w n at s
+      same z = read-same w n n t (table-at n at s) (λ q h. slot-same w n q t (table-at n at s) (len-t ∙ sym len-s) h (g .changed .kept q h (λ j b is. omega arith)))
 
-      spanned : HowellAt 32 n at s → (count ≡ 0) ↔ Spans 32 n at s v
+      spanned : HowellAt w n at s → (count ≡ 0) ↔ Spans w n at s v
       spanned h = (λ z. either .0 (sym (g .form) ∙ same z), λ i. (let e = ap weight (g .form ∙ either .1 i) in omega (arith, g .changed .sum)))
         where
-          either : (insert 32 (form-at 32 n at s) (flip v) ≡ form-at 32 n at s) ↔ Spans 32 n at s v
-          either = algebra .inserting .unchanged 32 n (form-at 32 n at s) (flip v) well h (fit-flip 32 fit)
+          either : (insert w (form-at w n at s) (flip v) ≡ form-at w n at s) ↔ Spans w n at s v
+          either = algebra .inserting .unchanged w n (form-at w n at s) (flip v) well h (fit-flip w fit)
 
 -- where the code has the end of the table under a name
-pub inserted-part : (n at end : ℕ) (s t v os ps : List ℕ) (count : ℕ) → end ≡ at + n * n → end ≤ length s → n ≤ length os → length v ≡ n → length t ≡ end - at
-    → ((i : ℕ) → getD s i 0 < 4294967296) → ((i : ℕ) → getD v i 0 < 4294967296) → Inserted 32 n (part at end s) v t os ps count
-    → InsertedAt n at s (putMid at (end - at) s t) v os ps count
-inserted-part n at end s t v os ps count is room list len-v len-t small-s small-v g =
-    subst (λ (z : ℕ). InsertedAt n at s (putMid at (z - at) s t) v os ps count) (sym is)
-    (inserted-at n at s t v os ps count (omega arith) list len-v (omega arith) small-s small-v (subst (λ (z : ℕ). Inserted 32 n (part at z s) v t os ps count) is g))
+pub inserted-part : (w n at end : ℕ) (s t v os ps : List ℕ) (count : ℕ) → end ≡ at + n * n → end ≤ length s → n ≤ length os → length v ≡ n → length t ≡ end - at
+    → ((i : ℕ) → getD s i 0 < 2 ^ w) → ((i : ℕ) → getD v i 0 < 2 ^ w) → Inserted w n (part at end s) v t os ps count
+    → InsertedAt w n at s (putMid at (end - at) s t) v os ps count
+inserted-part w n at end s t v os ps count is room list len-v len-t small-s small-v g =
+    subst (λ (z : ℕ). InsertedAt w n at s (putMid at (z - at) s t) v os ps count) (sym is)
+    (inserted-at w n at s t v os ps count (omega arith) list len-v (omega arith) small-s small-v (subst (λ (z : ℕ). Inserted w n (part at z s) v t os ps count) is g))

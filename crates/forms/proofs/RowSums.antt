@@ -82,7 +82,7 @@ dot-more w i c x h g = rw add-one (dot-suc w i c x h g)
 pub dot-all : (w n : ℕ) (c x : List ℕ) → length c ≡ length x → length c ≤ n → dot w (take n c) (take n x) ≡ dot w c x
 dot-all w n c x e h = rw (take-all n c h, take-all n x (omega arith))
 
--- noughts before the same place of one add nothing
+-- zeros before a place of one add nothing
 pub dot-drop : (w q : ℕ) (c x : List ℕ) → q ≤ length x → take q c ≡ replicate q 0 → dot w (drop q c) (drop q x) ≡ dot w c x
 dot-drop w zero c x h z = refl
 dot-drop w (suc q) [] [] h z = refl

@@ -1,7 +1,7 @@
 -- the rows told of a table are the rows of its laws
 use mathlib.Core.Path.{_≡_, sym, ap, _∙_, subst}
 use mathlib.Core.List.{List}
-use Prim.Native.Nat.{ℕ, _+_, _*_, _-_, _<_, _≤_}
+use Prim.Native.Nat.{ℕ, _+_, _*_, _-_, _^_, _<_, _≤_}
 use native.Mathlib.Omega.{arith}
 use lib.ListN.{length, getD}
 use Rattle.algebra.specs.Vec.{plus, times, dot, flip}
@@ -58,12 +58,12 @@ module _ (w n at : ℕ) (ws : List ℕ) where
       best : Best (LawAt w n at ws) (tell w f)
       best = best-same law-of law-back (algebra .annihilating .told w n f well howell)
 
-pub told-at : (n at end : ℕ) (ws s t : List ℕ) (count : ℕ) → end ≡ at + n * n → end ≤ length ws → end - at ≤ length s → ((i : ℕ) → getD ws i 0 < 4294967296)
-    → Written n (tell 32 (read 32 n n (part at end ws))) s t count → ToldAt n at ws s t count
-told-at n at end ws s t count is room rows small g = record {
+pub told-at : (w n at end : ℕ) (ws s t : List ℕ) (count : ℕ) → end ≡ at + n * n → end ≤ length ws → end - at ≤ length s → ((i : ℕ) → getD ws i 0 < 2 ^ w)
+    → Written n (tell w (read w n n (part at end ws))) s t count → ToldAt w n at ws s t count
+told-at w n at end ws s t count is room rows small g = record {
   room = (omega arith, omega arith);
-  here = subst (λ (z : ℕ). Written n (tell 32 (read 32 n n (part at z ws))) s t count) is g;
-  few = omega (arith, g .many, length-tell 32 (read 32 n n (part at end ws)), length-read 32 n n (part at end ws));
-  laws = λ h. law-rows 32 n at ws (fine-form 32 n at ws (omega arith) small) h;
+  here = subst (λ (z : ℕ). Written n (tell w (read w n n (part at z ws))) s t count) is g;
+  few = omega (arith, g .many, length-tell w (read w n n (part at end ws)), length-read w n n (part at end ws));
+  laws = λ h. law-rows w n at ws (fine-form w n at ws (omega arith) small) h;
   theory = algebra .annihilating;
 }

@@ -104,7 +104,7 @@ module _ (w n : ℕ) (ws : List ℕ) where
     pub zeros : take q c ≡ replicate q 0
     pub words : take k c ≡ law-to w n ws q (k - suc q)
 
-  -- noughts before the lead, and the lead
+  -- zeros before the lead, and the lead
   pub law-start : (q y : ℕ) (c z : List ℕ) → q < n → length c ≡ n → z ≡ replicate (q - 0) 0 → y ≡ 2 ^ (w - exponent-at w n q ws) → Law q (q + 1) (set (putMid 0 (q - 0) c z) q y)
   unfolding law-to
   law-start q y c z h len is e = record {

@@ -52,12 +52,12 @@ pub record Grown (w n at : ℕ) (s t v : List ℕ) : Type 0 where
   pub howell : HowellAt w n at s → HowellAt w n at t
 
 -- the row v inserted into the table at the word `at` of the words s, which are t then
-pub record InsertedAt (n at : ℕ) (s t v os ps : List ℕ) (count : ℕ) : Type 0 where
+pub record InsertedAt (w n at : ℕ) (s t v os ps : List ℕ) (count : ℕ) : Type 0 where
   pub room : (at + n * n ≤ length s) × (n ≤ length os)
-  pub here : Inserted 32 n (table-at n at s) v (table-at n at t) os ps count
-  pub grown : Grown 32 n at s t v
+  pub here : Inserted w n (table-at n at s) v (table-at n at t) os ps count
+  pub grown : Grown w n at s t v
   -- no row changes exactly if the row v is a sum of the table's rows
-  pub spanned : HowellAt 32 n at s → (count ≡ 0) ↔ Spans 32 n at s v
+  pub spanned : HowellAt w n at s → (count ≡ 0) ↔ Spans w n at s v
   -- all other words are as they were
   pub before : take at t ≡ take at s
   pub behind : drop (at + n * n) t ≡ drop (at + n * n) s
@@ -65,11 +65,11 @@ pub record InsertedAt (n at : ℕ) (s t v os ps : List ℕ) (count : ℕ) : Type
   pub theory : Inserting
 
 -- the promise of `insert`
-abbrev pub InsertPost : ℕ → List ℕ → List ℕ → List ℕ → List ℕ → List ℕ → List ℕ → Option ℕ → Type 0
-InsertPost at s t v v′ os ps None = (at + length v * length v ≤ length s → length v ≤ length os → ⊥) × (t ≡ s) × (v′ ≡ v) × (ps ≡ os)
-InsertPost at s t v v′ os ps (Some count) = InsertedAt (length v) at s t v os ps count
+abbrev pub InsertPost : ℕ → ℕ → List ℕ → List ℕ → List ℕ → List ℕ → List ℕ → List ℕ → Option ℕ → Type 0
+InsertPost w at s t v v′ os ps None = (at + length v * length v ≤ length s → length v ≤ length os → ⊥) × (t ≡ s) × (v′ ≡ v) × (ps ≡ os)
+InsertPost w at s t v v′ os ps (Some count) = InsertedAt w (length v) at s t v os ps count
 
 -- the promise of `insert_row`
 abbrev pub InsertRowPost : ℕ → ℕ → List ℕ → List ℕ → Row → Option Changes → Type 0
 InsertRowPost at n s t row None = (n ≤ 17 → at + n * n ≤ length s → ⊥) × (t ≡ s)
-InsertRowPost at n s t row (Some c) = (n ≤ 17) × InsertedAt n at s t (take n (row .words)) (replicate 17 0) (c .places) (c .count)
+InsertRowPost at n s t row (Some c) = (n ≤ 17) × InsertedAt 32 n at s t (take n (row .words)) (replicate 17 0) (c .places) (c .count)

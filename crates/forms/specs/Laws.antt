@@ -45,16 +45,16 @@ pub record LawRows (w n at : ℕ) (ws : List ℕ) (rs : List (List ℕ)) : Type 
   pub enough : (u : List ℕ) → Fit w n u → Each (λ (c : List ℕ). dot w c u ≡ 0) rs → Spans w n at ws u
 
 -- the laws told of the table at the word `at` of the words ws into the words s, which are t then
-pub record ToldAt (n at : ℕ) (ws s t : List ℕ) (count : ℕ) : Type 0 where
+pub record ToldAt (w n at : ℕ) (ws s t : List ℕ) (count : ℕ) : Type 0 where
   pub room : (at + n * n ≤ length ws) × (n * n ≤ length s)
-  pub here : Written n (tell 32 (form-at 32 n at ws)) s t count
+  pub here : Written n (tell w (form-at w n at ws)) s t count
   pub few : count ≤ n
   -- of a table that has Howell's property, as cleared tables have and insertions keep
-  pub laws : HowellAt 32 n at ws → LawRows 32 n at ws (tell 32 (form-at 32 n at ws))
+  pub laws : HowellAt w n at ws → LawRows w n at ws (tell w (form-at w n at ws))
   -- what is proved of annihilators
   pub theory : Annihilating
 
 -- the promise of `tell`
-abbrev pub TellPost : ℕ → ℕ → List ℕ → List ℕ → List ℕ → Option ℕ → Type 0
-TellPost at n ws s t None = (at + n * n ≤ length ws → n * n ≤ length s → ⊥) × (t ≡ s)
-TellPost at n ws s t (Some count) = ToldAt n at ws s t count
+abbrev pub TellPost : ℕ → ℕ → ℕ → List ℕ → List ℕ → List ℕ → Option ℕ → Type 0
+TellPost w at n ws s t None = (at + n * n ≤ length ws → n * n ≤ length s → ⊥) × (t ≡ s)
+TellPost w at n ws s t (Some count) = ToldAt w n at ws s t count

@@ -13,7 +13,7 @@ ghost use Rattle.forms.specs.Insertion.{Inserted, InsertPost, InsertRowPost};
 /// has. It tells how many rows of the table changed, and writes their places into `changed`, going down. The row is used up.
 /// `None`, with nothing changed, if the table does not fit in, or if `changed` has less room than places.
 pub fn insert(work: &mut [u32], at: usize, row: &mut [u32], changed: &mut [usize]) -> Option<usize>
-    ensures { λ r. ⌜ InsertPost at (now (work .entry)) (now (work .exit)) (now (row .entry)) (now (row .exit)) (now (changed .entry)) (now (changed .exit)) r ⌝ }
+    ensures { λ r. ⌜ InsertPost 32 at (now (work .entry)) (now (work .exit)) (now (row .entry)) (now (row .exit)) (now (changed .entry)) (now (changed .exit)) r ⌝ }
 {
     let n = row.len();
     let end = table_end(work.len(), at, n)?;

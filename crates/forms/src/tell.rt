@@ -13,7 +13,7 @@ ghost use Rattle.forms.specs.Laws.{law-to, Written, TellPost};
 /// with all that the form spans. They are written row by row from the beginning of `rows`, the number's place first; how
 /// many. `None`, with nothing written, if the table does not fit in, or if `rows` has less room than n rows.
 pub fn tell(work: &[u32], at: usize, n: usize, rows: &mut [u32]) -> Option<usize>
-    ensures { λ r. ⌜ TellPost at n (now (work .entry)) (now (rows .entry)) (now (rows .exit)) r ⌝ }
+    ensures { λ r. ⌜ TellPost 32 at n (now (work .entry)) (now (rows .entry)) (now (rows .exit)) r ⌝ }
 {
     let end = table_end(work.len(), at, n)?;
     // as many words as the table has

@@ -12,5 +12,5 @@ pub returns : need.returns
 returns c =
     let is = c .in-Some .ensures tt in
     let len : length (part (c .args .at) (c .in-Some .end) (c .args .work .now)) ≡ c .in-Some .end - c .args .at = search (needs, places) in
-    cleared-at (c .args .n) (c .args .at) (c .in-Some .end) (c .args .work .now) _ (is .0) (is .1)
+    cleared-at 32 (c .args .n) (c .args .at) (c .in-Some .end) (c .args .work .now) _ (is .0) (is .1)
     (c .fill .ensures .after (λ y h. h) ∙ ap {A = ℕ} {B = List ℕ} (λ (z : ℕ). replicate z 0) len)
