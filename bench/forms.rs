@@ -23,7 +23,11 @@ fn random_rows(random: &mut Random, n: usize, count: usize, even: bool) -> Vec<u
     (0..n * count)
         .map(|_| {
             let x = random.next();
-            if even { (x as u32) << ((x >> 32) % 32) } else { x as u32 }
+            if even {
+                (x as u32) << ((x >> 32) % 32)
+            } else {
+                x as u32
+            }
         })
         .collect()
 }
@@ -38,7 +42,12 @@ struct Memory {
 
 impl Memory {
     fn new(n: usize) -> Self {
-        Memory { work: vec![0; n * n], row: vec![0; n], changed: vec![0; n], laws: vec![0; n * n] }
+        Memory {
+            work: vec![0; n * n],
+            row: vec![0; n],
+            changed: vec![0; n],
+            laws: vec![0; n * n],
+        }
     }
 }
 
@@ -53,7 +62,8 @@ fn insert_all(clear: Clear, insert: Insert, memory: &mut Memory, rows: &[u32]) -
     let mut changes = 0;
     for row in rows.chunks_exact(n) {
         memory.row.copy_from_slice(row);
-        changes += insert(&mut memory.work, 0, &mut memory.row, &mut memory.changed).expect("the table fits in");
+        changes +=
+            insert(&mut memory.work, 0, &mut memory.row, &mut memory.changed).expect("the table fits in");
     }
     changes
 }
@@ -86,20 +96,40 @@ fn report(what: &str, jobs: usize, (ours, theirs): (Duration, Duration)) {
 }
 
 fn main() {
-    println!("{:34}{:>14}{:>14}{:>10}", "a second", "proved", "plain Rust", "times");
+    println!(
+        "{:34}{:>14}{:>14}{:>10}",
+        "a second", "proved", "plain Rust", "times"
+    );
     let mut random = Random(0x9e37_79b9_7f4a_7c15);
     for (n, even) in [(17, false), (17, true), (65, false), (65, true)] {
         let count = 8 * n;
         let rows = random_rows(&mut random, n, count, even);
         let (mut ours, mut theirs) = (Memory::new(n), Memory::new(n));
         let changes = insert_all(proved::clear, proved::insert, &mut ours, &rows);
-        assert_eq!(changes, insert_all(plain::clear, plain::insert, &mut theirs, &rows));
+        assert_eq!(
+            changes,
+            insert_all(plain::clear, plain::insert, &mut theirs, &rows)
+        );
         assert_eq!(ours.work, theirs.work, "the tables differ");
         let kind = if even { "many even" } else { "dense" };
 
         let times = race(
-            || { black_box(insert_all(proved::clear, proved::insert, &mut ours, black_box(&rows))); },
-            || { black_box(insert_all(plain::clear, plain::insert, &mut theirs, black_box(&rows))); },
+            || {
+                black_box(insert_all(
+                    proved::clear,
+                    proved::insert,
+                    &mut ours,
+                    black_box(&rows),
+                ));
+            },
+            || {
+                black_box(insert_all(
+                    plain::clear,
+                    plain::insert,
+                    &mut theirs,
+                    black_box(&rows),
+                ));
+            },
         );
         report(&format!("rows of {n} inserted, {kind}"), count, times);
 
@@ -110,8 +140,12 @@ fn main() {
         assert_eq!(told, plain::tell(&theirs.work, 0, n, &mut theirs.laws));
         assert_eq!(ours.laws, theirs.laws, "the laws differ");
         let times = race(
-            || { tell_often(proved::tell, &mut ours, n); },
-            || { tell_often(plain::tell, &mut theirs, n); },
+            || {
+                tell_often(proved::tell, &mut ours, n);
+            },
+            || {
+                tell_often(plain::tell, &mut theirs, n);
+            },
         );
         report(&format!("forms of {n} places told, {kind}"), TOLD, times);
     }

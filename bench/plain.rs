@@ -79,7 +79,10 @@ pub fn tell(work: &[u32], at: usize, n: usize, rows: &mut [u32]) -> Option<usize
         for k in q + 1..n {
             let entries = &table[k * n..k * n + k + 1];
             let e = entries[k].trailing_zeros();
-            let sum = law[q..k].iter().zip(&entries[q..k]).fold(0u32, |sum, (c, x)| sum.wrapping_add(c.wrapping_mul(*x)));
+            let sum = law[q..k]
+                .iter()
+                .zip(&entries[q..k])
+                .fold(0u32, |sum, (c, x)| sum.wrapping_add(c.wrapping_mul(*x)));
             let modulus = 1u64 << (32 - e);
             law[k] = ((modulus - (sum as u64 >> e)) & (modulus - 1)) as u32;
         }

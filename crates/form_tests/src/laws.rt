@@ -21,7 +21,9 @@ fn laws_of(
     for words in rows.chunks_exact(n) {
         let mut row = words.to_vec(heap)?;
         let mut changed = vec![in heap; 0usize; n]?;
-        let _ = insert(work, 5, row.as_mut_slice(), changed.as_mut_slice());
+        if insert(work, 5, row.as_mut_slice(), changed.as_mut_slice()).is_none() {
+            return Ok(None);
+        }
     }
     Ok(tell(work, 5, n, laws))
 }
