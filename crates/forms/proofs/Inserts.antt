@@ -95,8 +95,16 @@ module _ (w n : ℕ) (s v t os ps : List ℕ) (count : ℕ) (room : length t ≡
       let e : d - k + k ≡ d = omega arith in
       passed-over k (d - k) u len (omega (arith, g .room)) (λ j a b. z j a (omega arith)) (subst (λ (x : ℕ). Inserting w n x s v t u os ps count) (sym e) g)
 
-  module _ (k : ℕ) (place : k < n) (t′ u u′ : List ℕ) (len : length t′ ≡ length t) (r : Bool) (turned : Turned w n k t t′ u u′ r) (g : Inserting w n (suc k) s v t u os ps count)
+  -- the next place at which it is not 0 is k: d was the place before
+  module _ (k d : ℕ) (t′ u u′ : List ℕ) (sized : length u ≡ n) (behind : k < d) (zeros : (j : ℕ) → suc k ≤ j → j < d → getD u j 0 ≡ 0)
+      (before : Inserting w n d s v t u os ps count) (len : length t′ ≡ length t) (r : Bool) (turned : Turned w n k t t′ u u′ r)
       (small : ((i : ℕ) → getD t′ i 0 < 2 ^ w) × ((i : ℕ) → getD u′ i 0 < 2 ^ w)) where
+    g : Inserting w n (suc k) s v t u os ps count
+    g = inserting-zeros (suc k) d u sized behind zeros before
+
+    place : k < n
+    place = omega (arith, before .room)
+
     tails : (q i : ℕ) → q < i → i < n → word-at n q i t′ ≡ word-at n q i s
     tails q i l b = elim (cases-eq q k) [
       | inl is ↦ subst (λ (x : ℕ). word-at n x i t′ ≡ word-at n x i t) (sym is) (turned .tail i (omega arith) b)

@@ -8,14 +8,13 @@ use native.Mathlib.Omega.{arith}
 use borrow.Author.Needs.{needs}
 use lib.ListN.{length, drop, getD}
 use lib.Count.{trailingZeros, trailing-le}
-use lib.Dec.{T}
 use lib.Pow.{pow-pos}
 use Rattle.std.proofs.shelf.Lists.{places, ext-getD, getD-take, getD-drop, getD-past}
 use Rattle.std.proofs.shelf.Tests.{cases-lt, cases-eq}
-use Rattle.algebra.specs.Vec.{below, flip}
+use Rattle.algebra.specs.Vec.{flip}
 use Rattle.algebra.specs.Span.{Fit}
 use Rattle.algebra.specs.Form.{Slot, slot, Form, WellFormed, no-slots, slot-on, weight}
-use Rattle.algebra.proofs.Vec.{below-cons}
+use Rattle.algebra.proofs.Vec.{below-all}
 use Rattle.algebra.proofs.LastPlace.{fit-flip}
 use Rattle.forms.specs.Flat.{part, row-at, word-at, RowIn, exponent-at, slot-at, read, table-at, form-at}
 
@@ -100,10 +99,6 @@ module _ (w n k d : ℕ) (s t : List ℕ) (falls : exponent-at w n k t + d ≤ e
   ]
 
 -- words below a bound
-below-all : (m : ℕ) (v : List ℕ) → ((i : ℕ) → getD v i 0 < m) → T (below m v)
-below-all m [] h = tt
-below-all m (x ∷ v) h = below-cons m x v (h 0) (below-all m v (λ i. h (suc i)))
-
 pub fit-words : (w n : ℕ) (v : List ℕ) → length v ≡ n → ((i : ℕ) → getD v i 0 < 2 ^ w) → Fit w n v
 fit-words w n v e small = record { sized = e; small = below-all (2 ^ w) v small }
 

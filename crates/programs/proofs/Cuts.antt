@@ -41,10 +41,6 @@ four (x ∷ y ∷ t ∷ []) l = absurd (omega arith)
 four (x ∷ y ∷ t ∷ v ∷ ws) l = refl
 
 -- lists of numbers below a bound
-pub below-all : (b : ℕ) (xs : List ℕ) → ((i : ℕ) → getD xs i 0 < b) → T (below b xs)
-below-all b [] h = tt
-below-all b (x ∷ xs) h = below-cons b x xs (h 0) (below-all b xs (λ i. h (suc i)))
-
 pub below-take : (b n : ℕ) (xs : List ℕ) → ((i : ℕ) → getD xs i 0 < b) → T (below b (take n xs))
 below-take b zero xs h = tt
 below-take b (suc n) [] h = tt

@@ -8,11 +8,11 @@ use lib.Dec.{T, ltb, eqb, lt→ltb, ltb→lt, eqb-refl}
 use lib.ListN.{length, getD, take, replicate, length-append, length-replicate}
 use Rattle.std.proofs.shelf.Lists.{take-at, take-all}
 use Rattle.algebra.specs.Vec.{below}
-use Rattle.algebra.proofs.Vec.{and-l, and-r, and-i, cons-≡}
+use Rattle.algebra.proofs.Vec.{and-l, and-r, and-i, cons-≡, below-all}
 use Rattle.programs.specs.Programs.{Action, set, any, skip, Step, valid-action, valid-step, encode-action, encode-step}
 use Rattle.programs.specs.Reading.{bound}
 use Rattle.programs.proofs.One.{set-long}
-use Rattle.programs.proofs.Cuts.{below-all, below-zeros, below-append}
+use Rattle.programs.proofs.Cuts.{below-zeros, below-append}
 
 abbrev pub step-at : ℕ → ℕ → Action → Step
 step-at x y d = record { from = x; to = y; action = d }

@@ -1,5 +1,5 @@
 use mathlib.Core.Path.{refl, _∙_}
-use Prim.Native.Nat.{suc, _-_, _<_}
+use Prim.Native.Nat.{_-_, _<_}
 use native.Mathlib.Omega.{arith}
 use lib.ListN.{length}
 use Rattle.forms.proofs.Reading.{row-in}
@@ -17,20 +17,14 @@ insert-at-requires c κs =
 pub places-again-then-insert-at : need.places-again-then-insert-at
 places-again-then-insert-at c =
     inserting-more 32 (length (c .args .row .now)) _ _ (c .places .table) _ _ (c .places .count) (c .places .kept .table ∙ c .pre .room)
-    (c .loop-k .k - 1) (omega (arith, c .places .inv .room)) _ (c .places .row) _ (c .insert-at .kept .table) _ (c .insert-at .ensures)
-    (inserting-zeros 32 (length (c .args .row .now)) _ _ (c .places .table) _ _ (c .places .count) (c .places .kept .table ∙ c .pre .room)
-    (suc (c .loop-k .k - 1)) (c .places .done) (c .places .row) (c .places .kept .row) (omega arith) (λ j a b. c .loop-k .inv j (omega arith) b) (c .places .inv))
-    (λ i. c .typed .table i .fits, λ i. c .typed .row i .fits)
-    (c .if-insert-at .taken) (omega arith)
+    (c .loop-k .k - 1) (c .places .done) _ (c .places .row) _ (c .places .kept .row) (omega arith) (λ j a b. c .loop-k .inv j (omega arith) b) (c .places .inv)
+    (c .insert-at .kept .table) _ (c .insert-at .ensures) (λ i. c .typed .table i .fits, λ i. c .typed .row i .fits) (c .if-insert-at .taken) (omega arith)
 
 pub places-again : need.places-again
 places-again c =
     inserting-same 32 (length (c .args .row .now)) _ _ (c .places .table) _ _ (c .places .count) (c .places .kept .table ∙ c .pre .room)
-    (c .loop-k .k - 1) (omega (arith, c .places .inv .room)) _ (c .places .row) _ (c .insert-at .kept .table) _ (c .insert-at .ensures)
-    (inserting-zeros 32 (length (c .args .row .now)) _ _ (c .places .table) _ _ (c .places .count) (c .places .kept .table ∙ c .pre .room)
-    (suc (c .loop-k .k - 1)) (c .places .done) (c .places .row) (c .places .kept .row) (omega arith) (λ j a b. c .loop-k .inv j (omega arith) b) (c .places .inv))
-    (λ i. c .typed .table i .fits, λ i. c .typed .row i .fits)
-    (c .if-insert-at .left)
+    (c .loop-k .k - 1) (c .places .done) _ (c .places .row) _ (c .places .kept .row) (omega arith) (λ j a b. c .loop-k .inv j (omega arith) b) (c .places .inv)
+    (c .insert-at .kept .table) _ (c .insert-at .ensures) (λ i. c .typed .table i .fits, λ i. c .typed .row i .fits) (c .if-insert-at .left)
 
 pub returns : need.returns
 returns c =

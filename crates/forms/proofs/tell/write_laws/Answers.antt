@@ -18,14 +18,17 @@ exponent-requires c κs = record { room = row-in (c .args .n) (c .loop-q .q) (c 
 row-fits : (n count next q m : ℕ) → count ≤ next → next ≤ q → q < n → n * n ≤ m → count * n + n ≤ m
 row-fits n count next q m a b h l = omega (arith, row-before n count n (omega arith))
 
+row-room : (c : need.Then-exponent-gt0) → c .rows .count * c .args .n + c .args .n ≤ length (c .rows .rows)
+row-room c = row-fits (c .args .n) (c .rows .count) (c .rows .next) (c .loop-q .q) (length (c .rows .rows)) (c .rows .inv .1) (c .loop-q .kept .q) (c .loop-q-test .taken) (omega arith)
+
 pub add-from : need.add-from
-add-from c = omega (arith, row-fits (c .args .n) (c .rows .count) (c .rows .next) (c .loop-q .q) (length (c .rows .rows)) (c .rows .inv .1) (c .loop-q .kept .q) (c .loop-q-test .taken) (omega arith))
+add-from c = omega (arith, row-room c)
 
 pub offset-rows-from : need.offset-rows-from
-offset-rows-from c = omega (arith, row-fits (c .args .n) (c .rows .count) (c .rows .next) (c .loop-q .q) (length (c .rows .rows)) (c .rows .inv .1) (c .loop-q .kept .q) (c .loop-q-test .taken) (omega arith))
+offset-rows-from c = omega (arith, row-room c)
 
 pub part-write-law-end : need.part-write-law-end
-part-write-law-end c = omega (arith, row-fits (c .args .n) (c .rows .count) (c .rows .next) (c .loop-q .q) (length (c .rows .rows)) (c .rows .inv .1) (c .loop-q .kept .q) (c .loop-q-test .taken) (omega arith))
+part-write-law-end c = omega (arith, row-room c)
 
 pub rows-again : need.rows-again
 rows-again c = (
