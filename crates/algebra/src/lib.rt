@@ -1,5 +1,8 @@
 //! Linear algebra over words of w bits: a library of theorems. Its functions compute nothing; their contracts ask the
 //! prover for what they state.
+
+#![tactic(auto)]
+
 ghost use Rattle.std.specs.Prelude.{List, ℕ};
 ghost use Rattle.algebra.specs.Examples.{Examples};
 ghost use Rattle.algebra.specs.Theorems.{Algebra, Spanned, Unique};

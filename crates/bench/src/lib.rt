@@ -1,4 +1,7 @@
 //! The calls of `forms` under C names, for the benchmark, which is written in Rust. A refusal is the largest number.
+
+#![tactic(auto)]
+
 ghost use Rattle.std.specs.Prelude.{◌≡◌, ◌<◌, Some, None};
 ghost use Rattle.forms.specs.Clearing.{ClearPost};
 ghost use Rattle.forms.specs.Insertion.{InsertPost};

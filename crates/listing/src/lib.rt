@@ -1,5 +1,7 @@
 //! Programs as people read them: steps with names and sums written out, and what is wrong with a text that holds none.
 
+#![tactic(auto)]
+
 pub mod messages;
 mod names;
 mod numbers;

@@ -1,5 +1,8 @@
 //! Reads a program's words as text from standard input, and prints each point of the program with its steps; or says on
 //! standard error what is wrong and where, and ends with status 1.
+
+#![tactic(auto)]
+
 use listing::messages::push_refusal;
 use listing::report::tell_steps;
 use std::io;

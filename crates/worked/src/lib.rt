@@ -1,5 +1,7 @@
 //! The worked programs, damaged words and damaged texts, through the reader and the report.
 
+#![tactic(auto)]
+
 #[cfg(test)]
 mod damaged;
 #[cfg(test)]
