@@ -15,8 +15,8 @@ pub trait RowSet {
 /// What holds of every set of rows that is closed under sums: each member is a sum of its best rows, and it has one list
 /// of best rows only.
 pub fn best_rows<S: RowSet>(set: &S)
-    ensures spanned { Spanned (has set.now) }
-    ensures unique { Unique (has set.now) }
+    ensures spanned { Spanned (S.has set.now) }
+    ensures unique { Unique (S.has set.now) }
 {}
 
 /// The theorems on forms, annihilators and linear systems, and examples of what they compute.
