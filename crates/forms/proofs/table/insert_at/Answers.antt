@@ -23,4 +23,4 @@ returns-then-new-old c =
 pub returns-else-new-old : goal.returns-else-new-old
 returns-else-new-old c =
     turned_keep 32 c.args.n c.args.k c.args.table.now c.args.row.now c.requires.room c.requires.sized c.requires.place
-    _ _ c.if-new-old.false c.negate-else-new-old.ensures c.add-multiple.ensures
+    _ _ c.if-new-old.false c.negate-else-new-old.ensures c.add_multiple.ensures

@@ -4,5 +4,5 @@ use Rattle.forms.proofs.tell.tell.Goals as goal
 
 pub returns : goal.returns
 returns c =
-    let is = c.in-ok-end.ensures in
-    told_at 32 c.args.n c.args.at c.in-ok-end.end c.args.work.now c.args.rows.now _ _ is.0 is.1 (omega arith) (search rules) c.write-laws.ensures
+    let is = c.in_ok-end.ensures in
+    told_at 32 c.args.n c.args.at c.in_ok-end.end c.args.work.now c.args.rows.now _ _ is.0 is.1 (omega arith) (search rules) c.write_laws.ensures

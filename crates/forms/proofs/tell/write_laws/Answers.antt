@@ -17,19 +17,19 @@ row_fits n count next q m a b h l = omega (arith, row_before n count n (omega ar
 row_room : (c : goal.Then-exponent-gt0) → c.rows.count * c.args.n + c.args.n ≤ length c.rows.rows
 row_room c = row_fits c.args.n c.rows.count c.rows.next c.loop-q.q (length c.rows.rows) c.rows.invariant.1 c.loop-q.auto.q c.loop-q-test.true (omega arith)
 
-pub overflow-add-from : goal.overflow-add-from
-overflow-add-from c = omega (arith, row_room c)
+pub overflow_add-from : goal.overflow_add-from
+overflow_add-from c = omega (arith, row_room c)
 
-pub offset-bounds-rows-from : goal.offset-bounds-rows-from
-offset-bounds-rows-from c = omega (arith, row_room c)
+pub offset_bounds-rows-from : goal.offset_bounds-rows-from
+offset_bounds-rows-from c = omega (arith, row_room c)
 
-pub slice-bounds-write-law-end : goal.slice-bounds-write-law-end
-slice-bounds-write-law-end c = omega (arith, row_room c)
+pub slice_bounds-write_law-end : goal.slice_bounds-write_law-end
+slice_bounds-write_law-end c = omega (arith, row_room c)
 
 pub rows-preserved : goal.rows-preserved
 rows-preserved c = (
-  told_turn 32 c.args.n c.args.table.now c.rows.next c.loop-q.q c.rows.count c.args.rows.now c.rows.rows c.write-law.new.law c.loop-q.auto.q c.loop-q-test.true
-      c.loop-q.invariant (omega arith) c.write-law.ensures
+  told_turn 32 c.args.n c.args.table.now c.rows.next c.loop-q.q c.rows.count c.args.rows.now c.rows.rows c.write_law.new.law c.loop-q.auto.q c.loop-q-test.true
+      c.loop-q.invariant (omega arith) c.write_law.ensures
       (row_fits c.args.n c.rows.count c.rows.next c.loop-q.q (length c.rows.rows) c.rows.invariant.1 c.loop-q.auto.q c.loop-q-test.true (omega arith)) c.rows.invariant.0,
   omega (arith, c.rows.invariant.1),
   omega arith,

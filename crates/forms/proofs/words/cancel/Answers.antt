@@ -6,8 +6,8 @@ use Rattle.forms.proofs.words.cancel.Goals as goal
 modulus_is : (e : ℕ) → e ≤ 32 → (1 * 2 ^ (32 - e)) % 18446744073709551616 ≡ 2 ^ (32 - e)
 modulus_is e h = one_shl (32 - e) 64 (omega arith)
 
-pub overflow-sub-result : goal.overflow-sub-result
-overflow-sub-result c = omega (arith, modulus_is c.args.e c.requires, quotient_below 32 c.args.e c.requires c.args.sum c.ranges.sum.fits)
+pub overflow_sub-result : goal.overflow_sub-result
+overflow_sub-result c = omega (arith, modulus_is c.args.e c.requires, quotient_below 32 c.args.e c.requires c.args.sum c.ranges.sum.fits)
 
 pub returns : goal.returns
 returns c =

@@ -7,7 +7,7 @@ pub loop-i-preserved : goal.loop-i-preserved
 loop-i-preserved c =
     let few : c.loop-i.i < 40 = omega arith in (
       omega arith,
-      ap (λ (x : List ℕ). with_part (40 - (c.loop-i.i + 1)) (drop (c.loop-i.i + 1) c.args.part.now) x) (c.in-ok-push.ensures.items ∙ ap (λ (b : ℕ). vec_items c.loop-i.out ++ (b ∷ [])) c.visible.ensures)
+      ap (λ (x : List ℕ). with_part (40 - (c.loop-i.i + 1)) (drop (c.loop-i.i + 1) c.args.part.now) x) (c.in_ok-push.ensures.items ∙ ap (λ (b : ℕ). vec_items c.loop-i.out ++ (b ∷ [])) c.visible.ensures)
           ∙ sym (part_more 40 c.loop-i.i c.args.part.now (vec_items c.loop-i.out) few c.loop-i-test.true)
           ∙ c.loop-i.invariant.1,
     )

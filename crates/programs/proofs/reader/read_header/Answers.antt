@@ -12,18 +12,18 @@ refused : (z : Limits) (ws : List ℕ) (r : Result Header Wrong) (e : Wrong) →
 refused z ws (Ok x) e h n = absurd h
 refused z ws (Err x) e h n = rw h n
 
-pub returns-in-err-k : goal.returns-in-err-k
-returns-in-err-k c = refused _ _ c.from-residual.result _ c.from-residual.ensures.1 (wrong_words (limits_of c.args.limits) _ c.in-err-k.field-0.0 c.in-err-k.ensures)
+pub returns-in_err-k : goal.returns-in_err-k
+returns-in_err-k c = refused _ _ c.from_residual.result _ c.from_residual.ensures.1 (wrong_words (limits_of c.args.limits) _ c.in_err-k.field-0.0 c.in_err-k.ensures)
 
-pub returns-in-err-points : goal.returns-in-err-points
-returns-in-err-points c =
-    refused _ _ c.from-residual-in-err-points.result _ c.from-residual-in-err-points.ensures.1
-    (wrong_points (limits_of c.args.limits) _ c.in-ok-k.ensures c.in-err-points.field-0.0 c.in-err-points.ensures)
+pub returns-in_err-points : goal.returns-in_err-points
+returns-in_err-points c =
+    refused _ _ c.from_residual-in_err-points.result _ c.from_residual-in_err-points.ensures.1
+    (wrong_points (limits_of c.args.limits) _ c.in_ok-k.ensures c.in_err-points.field-0.0 c.in_err-points.ensures)
 
-pub returns-in-err-steps : goal.returns-in-err-steps
-returns-in-err-steps c =
-    refused _ _ c.from-residual-in-err-steps.result _ c.from-residual-in-err-steps.ensures.1
-    (wrong_steps (limits_of c.args.limits) _ c.in-ok-k.ensures c.in-ok-points.ensures c.in-err-steps.field-0.0 c.in-err-steps.ensures)
+pub returns-in_err-steps : goal.returns-in_err-steps
+returns-in_err-steps c =
+    refused _ _ c.from_residual-in_err-steps.result _ c.from_residual-in_err-steps.ensures.1
+    (wrong_steps (limits_of c.args.limits) _ c.in_ok-k.ensures c.in_ok-points.ensures c.in_err-steps.field-0.0 c.in_err-steps.ensures)
 
 pub returns : goal.returns
-returns c = header (limits_of c.args.limits) _ c.in-ok-k.ensures c.in-ok-points.ensures c.in-ok-steps.ensures
+returns c = header (limits_of c.args.limits) _ c.in_ok-k.ensures c.in_ok-points.ensures c.in_ok-steps.ensures

@@ -15,8 +15,8 @@ refused : (z : Limits) (ws o : List ℕ) (r : Result Header Wrong) (e : Wrong) �
 refused z ws o (Ok x) e h n = absurd h
 refused z ws o (Err x) e h n = rw h (record { says = (n.0, inl (n.1, refl)); one_program = one_program z })
 
-pub returns-in-err-header : goal.returns-in-err-header
-returns-in-err-header c = refused (limits_of c.args.limits) c.args.words.now c.args.starts.now c.from-residual.result c.in-err-header.field-0.0 c.from-residual.ensures.1 c.in-err-header.ensures
+pub returns-in_err-header : goal.returns-in_err-header
+returns-in_err-header c = refused (limits_of c.args.limits) c.args.words.now c.args.starts.now c.from_residual.result c.in_err-header.field-0.0 c.from_residual.ensures.1 c.in_err-header.ensures
 
 -- the words from `at` on, as the call has them
 rest_starts : (ws : List ℕ) (at : ℕ) {k m j : ℕ} {s : Step} → Starts k m (take (length ws - at) (drop at ws)) s j → Starts k m (drop at ws) s j
@@ -29,13 +29,13 @@ pub returns-in-Err : goal.returns-in-Err
 returns-in-Err c =
     record {
       says =
-          turn_wrong _ _ _ _ _ _ _ _ c.loop-i.invariant c.args.limits c.in-ok-header.ensures c.loop-i-test.true c.in-Err.wrong.at c.in-Err.wrong.fault
+          turn_wrong _ _ _ _ _ _ _ _ c.loop-i.invariant c.args.limits c.in_ok-header.ensures c.loop-i-test.true c.in-Err.wrong.at c.in-Err.wrong.fault
           (rest_wrong c.args.words.now c.loop-i.at c.in-Err.ensures);
       one_program = one_program (limits_of c.args.limits);
     }
 
 pub loop-i-init : goal.loop-i-init
-loop-i-init c = turn_none c.in-ok-header.ensures c.args.starts.now
+loop-i-init c = turn_none c.in_ok-header.ensures c.args.starts.now
 
 pub loop-i-preserved : goal.loop-i-preserved
 loop-i-preserved c =
@@ -51,13 +51,13 @@ loop-i-preserved c =
 pub returns-then-at-words : goal.returns-then-at-words
 returns-then-at-words c =
     record {
-      says = turn_longer _ _ _ _ _ _ _ _ c.loop-i.invariant c.args.limits c.in-ok-header.ensures (omega arith) c.if-at-words.true;
+      says = turn_longer _ _ _ _ _ _ _ _ c.loop-i.invariant c.args.limits c.in_ok-header.ensures (omega arith) c.if-at-words.true;
       one_program = one_program (limits_of c.args.limits);
     }
 
 pub returns : goal.returns
 returns c =
     record {
-      says = turn_last _ _ _ _ _ _ _ _ c.loop-i.invariant c.args.limits c.in-ok-header.ensures (omega arith) c.if-at-words.false;
+      says = turn_last _ _ _ _ _ _ _ _ c.loop-i.invariant c.args.limits c.in_ok-header.ensures (omega arith) c.if-at-words.false;
       one_program = one_program (limits_of c.args.limits);
     }

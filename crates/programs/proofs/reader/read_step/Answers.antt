@@ -6,7 +6,7 @@ use Rattle.programs.specs.Reading.{NoStep, Starts, StepSays, step_of}
 use Rattle.programs.specs.Single.{Below}
 use Rattle.programs.proofs.StepRead.{wrong_from, wrong_to, wrong_kind, wrong_word, wrong_set, starts_set, starts_any, starts_skip}
 use Rattle.programs.proofs.reader.read_step.Goals as goal
-use Rattle.programs.proofs.reader.read_step.Goals.{in-0+in-ok-word+else-words-k, in-1+in-ok-below, in-default}
+use Rattle.programs.proofs.reader.read_step.Goals.{in-0+in_ok-word-in-0+else-words-k, in-1+in_ok-below-in-1, in_default}
 
 -- a refusal that is handed on
 refused : (k m : ℕ) (ws : List ℕ) (r : Result (code_step.Step × ℕ) Wrong) (e : Wrong) → IsErrAnd r (λ x. x ≡ e) → NoStep k m ws e.at e.fault → StepSays k m ws r
@@ -19,31 +19,31 @@ kind_is e h = rw e at h
 part : (k : ℕ) (ws : List ℕ) → take (k + 5 - 4) (drop 4 ws) ≡ take (suc k) (drop 4 ws)
 part k ws = let e : k + 5 - 4 ≡ suc k = omega arith in cc
 
-pub returns-in-err-from : goal.returns-in-err-from
-returns-in-err-from c = refused _ _ _ c.from-residual.result _ c.from-residual.ensures.1 (wrong_from _ _ _ c.in-err-from.field-0.0 c.in-err-from.ensures)
+pub returns-in_err-from : goal.returns-in_err-from
+returns-in_err-from c = refused _ _ _ c.from_residual.result _ c.from_residual.ensures.1 (wrong_from _ _ _ c.in_err-from.field-0.0 c.in_err-from.ensures)
 
-pub returns-in-err-to : goal.returns-in-err-to
-returns-in-err-to c = refused _ _ _ c.from-residual-in-err-to.result _ c.from-residual-in-err-to.ensures.1 (wrong_to _ _ _ c.in-ok-from.ensures c.in-err-to.field-0.0 c.in-err-to.ensures)
+pub returns-in_err-to : goal.returns-in_err-to
+returns-in_err-to c = refused _ _ _ c.from_residual-in_err-to.result _ c.from_residual-in_err-to.ensures.1 (wrong_to _ _ _ c.in_ok-from.ensures c.in_err-to.field-0.0 c.in_err-to.ensures)
 
-pub returns-in-err-kind : goal.returns-in-err-kind
-returns-in-err-kind c =
-    refused _ _ _ c.from-residual-in-err-kind.result _ c.from-residual-in-err-kind.ensures.1
-    (wrong_kind _ _ _ c.in-ok-from.ensures c.in-ok-to.ensures c.in-err-kind.field-0.0 c.in-err-kind.ensures)
+pub returns-in_err-kind : goal.returns-in_err-kind
+returns-in_err-kind c =
+    refused _ _ _ c.from_residual-in_err-kind.result _ c.from_residual-in_err-kind.ensures.1
+    (wrong_kind _ _ _ c.in_ok-from.ensures c.in_ok-to.ensures c.in_err-kind.field-0.0 c.in_err-kind.ensures)
 
-pub returns-in-err-word : goal.returns-in-err-word
-returns-in-err-word c =
-    refused _ _ _ c.from-residual-in-err-word.result _ c.from-residual-in-err-word.ensures.1
-    (wrong_word _ _ _ c.in-ok-from.ensures c.in-ok-to.ensures c.in-ok-kind.ensures (omega (arith, c.in-0.is)) c.in-err-word.field-0.0 c.in-err-word.ensures)
+pub returns-in_err-word-in-0 : goal.returns-in_err-word-in-0
+returns-in_err-word-in-0 c =
+    refused _ _ _ c.from_residual-in_err-word-in-0.result _ c.from_residual-in_err-word-in-0.ensures.1
+    (wrong_word _ _ _ c.in_ok-from.ensures c.in_ok-to.ensures c.in_ok-kind.ensures (omega (arith, c.in-0.is)) c.in_err-word-in-0.field-0.0 c.in_err-word-in-0.ensures)
 
 pub returns-then-words-k : goal.returns-then-words-k
 returns-then-words-k c =
-    let w = c.in-ok-word.ensures in
-    wrong_set _ _ _ c.in-ok-from.ensures c.in-ok-to.ensures (λ i. (c.type-inv.words i).fits) (kind_is c.in-0.is c.in-ok-kind.ensures) w (omega arith)
+    let w = c.in_ok-word-in-0.ensures in
+    wrong_set _ _ _ c.in_ok-from.ensures c.in_ok-to.ensures (λ i. (c.type_inv.words i).fits) (kind_is c.in-0.is c.in_ok-kind.ensures) w (omega arith)
 
-pub returns-in-err-below : goal.returns-in-err-below
-returns-in-err-below c =
-    refused _ _ _ c.from-residual-in-err-below.result _ c.from-residual-in-err-below.ensures.1
-    (wrong_word _ _ _ c.in-ok-from.ensures c.in-ok-to.ensures c.in-ok-kind.ensures (omega (arith, c.in-1.is)) c.in-err-below.field-0.0 c.in-err-below.ensures)
+pub returns-in_err-below-in-1 : goal.returns-in_err-below-in-1
+returns-in_err-below-in-1 c =
+    refused _ _ _ c.from_residual-in_err-below-in-1.result _ c.from_residual-in_err-below-in-1.ensures.1
+    (wrong_word _ _ _ c.in_ok-from.ensures c.in_ok-to.ensures c.in_ok-kind.ensures (omega (arith, c.in-1.is)) c.in_err-below-in-1.field-0.0 c.in_err-below-in-1.ensures)
 
 -- what the arms of the match make
 made : {k m : ℕ} {ws : List ℕ} (x y : ℕ) (r s : code_action.Action × ℕ) → r ≡ s → Starts k m ws (step_of (record { from = x; to = y; action = s.0 })) s.1 → Starts k m ws (step_of (record { from = x; to = y; action = r.0 })) r.1
@@ -51,11 +51,11 @@ made x y r s e h = rw e h
 
 pub returns : goal.returns
 returns c =
-    let p = c.in-ok-from.ensures in
-    let q = c.in-ok-to.ensures in
-    let t = c.in-ok-kind.ensures in
+    let p = c.in_ok-from.ensures in
+    let q = c.in_ok-to.ensures in
+    let t = c.in_ok-kind.ensures in
     elim c.match-kind.branch [
-      | in-0+in-ok-word+else-words-k w ↦ made _ _ c.match-kind.n _ w.n-is (starts_set _ _ _ p q (λ i. (c.type-inv.words i).fits) (kind_is w.in-0.is t) w.in-ok-word.ensures (omega (arith, w.in-ok-word.ensures, w.if-words-k.false)) _ (part c.args.k c.args.words.now))
-      | in-1+in-ok-below w ↦ made _ _ c.match-kind.n _ w.n-is (starts_any _ _ _ p q (kind_is w.in-1.is t) w.in-ok-below.ensures)
-      | in-default w ↦ made _ _ c.match-kind.n _ w.n-is (starts_skip _ _ _ p q (kind_is (omega arith) t))
+      | in-0+in_ok-word-in-0+else-words-k w ↦ made _ _ c.match-kind.n _ w.n-is (starts_set _ _ _ p q (λ i. (c.type_inv.words i).fits) (kind_is w.in-0.is t) w.in_ok-word-in-0.ensures (omega (arith, w.in_ok-word-in-0.ensures, w.if-words-k.false)) _ (part c.args.k c.args.words.now))
+      | in-1+in_ok-below-in-1 w ↦ made _ _ c.match-kind.n _ w.n-is (starts_any _ _ _ p q (kind_is w.in-1.is t) w.in_ok-below-in-1.ensures)
+      | in_default w ↦ made _ _ c.match-kind.n _ w.n-is (starts_skip _ _ _ p q (kind_is (omega arith) t))
     ]

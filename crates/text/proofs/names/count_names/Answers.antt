@@ -7,9 +7,9 @@ pub loop-byte-preserved : goal.loop-byte-preserved
 loop-byte-preserved c =
     elim c.if-black.branch [
       | then-black+then-not-inside w ↦
-          counts_begin _ _ _ _ c.loop-byte-test.true c.is-white-black.ensures _ _ _ _ w.if-black.true w.if-not-inside.true w.count_is w.inside-is c.loop-byte.invariant
+          counts_begin _ _ _ _ c.loop-byte-test.true c.is_white-black.ensures _ _ _ _ w.if-black.true w.if-not-inside.true w.count-is w.inside-is c.loop-byte.invariant
       | else-black w ↦
-          counts_pass _ _ _ _ c.loop-byte-test.true c.is-white-black.ensures _ _ _ _ w.else-black.either w.count_is w.inside-is c.loop-byte.invariant
+          counts_pass _ _ _ _ c.loop-byte-test.true c.is_white-black.ensures _ _ _ _ w.else-black.either w.count-is w.inside-is c.loop-byte.invariant
     ]
 
 pub returns : goal.returns

@@ -3,11 +3,11 @@ use Rattle.text.proofs.Counting.{counted_feed, counted_other, counted_all}
 use Rattle.text.proofs.places.place.Goals as goal
 use Rattle.text.proofs.places.place.Goals.{then-byte-eq10, else-byte-eq10}
 
-pub overflow-add-line : goal.overflow-add-line
-overflow-add-line c = omega arith
+pub overflow_add-line : goal.overflow_add-line
+overflow_add-line c = omega arith
 
-pub overflow-add-column : goal.overflow-add-column
-overflow-add-column c = omega arith
+pub overflow_add-column : goal.overflow_add-column
+overflow_add-column c = omega arith
 
 pub loop-byte-preserved : goal.loop-byte-preserved
 loop-byte-preserved c =
