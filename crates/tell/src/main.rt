@@ -7,6 +7,7 @@ use listing::messages::push_refusal;
 use listing::report::tell_steps;
 use std::io;
 use std::io::{Read, Write};
+use std::process::ExitCode;
 
 // The largest text, and as many numbers as such a text can hold: 1.5 MiB together.
 const TEXT_BYTES: usize = 524_288;
@@ -40,14 +41,14 @@ fn run(rt: &HostRuntime) -> io::Result<bool> {
     Ok(true)
 }
 
-// An error that `main` returns makes the status 1, and prints nothing.
-fn main(rt: HostRuntime) -> io::Result<()> {
+// The status is 1 where nothing is told; what `run` has not said of it yet is said here.
+fn main(rt: HostRuntime) -> ExitCode {
     match run(&rt) {
-        Ok(true) => Ok(()),
-        Ok(false) => Err(io::Error::from(io::ErrorKind::InvalidData)),
+        Ok(true) => ExitCode::SUCCESS,
+        Ok(false) => ExitCode::FAILURE,
         Err(error) => {
-            eprintln!(rt; "{error}")?;
-            Err(error)
+            let _ = eprintln!(rt; "{error}");
+            ExitCode::FAILURE
         }
     }
 }
