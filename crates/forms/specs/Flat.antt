@@ -1,7 +1,7 @@
 -- How lent words are read as a Howell form. A table of n places is n rows of n words, one behind the other: row k begins at
 -- the word k * n, has its pivot at its place k and its entries at the places before that. What stands behind the pivot is
 -- not read. No other definition, and no code but src/table.rt, knows this.
-use Rattle.std.specs.Prelude.{◌≡◌, ℕ, zero, suc, ◌+◌, ◌-◌, ◌*◌, ◌≤◌, List, [], ◌∷◌, length, Some, None, Option, slice_index, slice_range}
+use Rattle.std.specs.Prelude.{◌≡◌, ℕ, zero, suc, ◌+◌, ◌*◌, ◌≤◌, List, [], ◌∷◌, length, Some, None, Option, slice_index, slice_range}
 use Rattle.std.specs.Int.Count.{count_trailing_zeros}
 use Rattle.algebra.specs.Vec.{flip}
 use Rattle.algebra.specs.Form.{Slot, slot, Form}
