@@ -6,16 +6,16 @@ use Rattle.algebra.specs.Vec.{plus, times, dot}
 use Rattle.algebra.proofs.Modular.{mods}
 use Rattle.algebra.proofs.Vec.{length_plus, length_times, dot_mod}
 
-pub getD_times : (w k i : ℕ) (v : List ℕ) → get_or (times w k v) i 0 ≡ (k * get_or v i 0) % 2 ^ w
-getD_times w k i [] = sym (ap (λ (z : ℕ). z % 2 ^ w) (omega arith) ∙ zero-mod (2 ^ w))
-getD_times w k zero (x ∷ v) = refl
-getD_times w k (suc i) (x ∷ v) = getD_times w k i v
+pub get_or_times : (w k i : ℕ) (v : List ℕ) → get_or (times w k v) i 0 ≡ (k * get_or v i 0) % 2 ^ w
+get_or_times w k i [] = sym (ap (λ (z : ℕ). z % 2 ^ w) (omega arith) ∙ zero-mod (2 ^ w))
+get_or_times w k zero (x ∷ v) = refl
+get_or_times w k (suc i) (x ∷ v) = get_or_times w k i v
 
-pub getD_plus : (w i : ℕ) (v t : List ℕ) → i < length v → length v ≡ length t → get_or (plus w v t) i 0 ≡ (get_or v i 0 + get_or t i 0) % 2 ^ w
-getD_plus w i [] t h e = absurd (omega arith)
-getD_plus w i (x ∷ v) [] h e = absurd (omega arith)
-getD_plus w zero (x ∷ v) (y ∷ t) h e = refl
-getD_plus w (suc i) (x ∷ v) (y ∷ t) h e = getD_plus w i v t (le_of_suc-le-suc h) (suc_inj e)
+pub get_or_plus : (w i : ℕ) (v t : List ℕ) → i < length v → length v ≡ length t → get_or (plus w v t) i 0 ≡ (get_or v i 0 + get_or t i 0) % 2 ^ w
+get_or_plus w i [] t h e = absurd (omega arith)
+get_or_plus w i (x ∷ v) [] h e = absurd (omega arith)
+get_or_plus w zero (x ∷ v) (y ∷ t) h e = refl
+get_or_plus w (suc i) (x ∷ v) (y ∷ t) h e = get_or_plus w i v t (le_of_suc-le-suc h) (suc_inj e)
 
 -- in the first n places u is v + k t, and behind them v
 pub record Added (w n k : ℕ) (v t u : List ℕ) : Type 0 where
@@ -30,8 +30,8 @@ added_all w n k v t u e h a =
     let c : i < length v = omega (arith, a.len) in
     a.front i (omega arith)
     ∙ sym (add-mod-mod (get_or v i 0) (k * get_or t i 0) (2 ^ w))
-    ∙ ap (λ (z : ℕ). (get_or v i 0 + z) % 2 ^ w) (sym (getD_times w k i t))
-    ∙ sym (getD_plus w i v (times w k t) c same))
+    ∙ ap (λ (z : ℕ). (get_or v i 0 + z) % 2 ^ w) (sym (get_or_times w k i t))
+    ∙ sym (get_or_plus w i v (times w k t) c same))
   where
     same : length v ≡ length (times w k t)
     same = e ∙ sym (length_times w k t)
@@ -47,7 +47,7 @@ pub record Exchanged (w n c k : ℕ) (v t u s : List ℕ) : Type 0 where
 
 module _ (w n c k : ℕ) (v t u s : List ℕ) (e : length v ≡ length t) (h : length v ≤ n) (x : Exchanged w n c k v t u s) where
   times_at : (i : ℕ) → (0 + c * get_or v i 0) % 2 ^ w ≡ get_or (times w c v) i 0
-  times_at i = ap (λ (z : ℕ). z % 2 ^ w) (omega arith) ∙ sym (getD_times w c i v)
+  times_at i = ap (λ (z : ℕ). z % 2 ^ w) (omega arith) ∙ sym (get_or_times w c i v)
 
   pub exchanged_new : s ≡ times w c v
   exchanged_new = ext_get_or 0 s (times w c v) (x.len_s ∙ sym e ∙ sym (length_times w c v)) (λ i b. x.new i (omega (arith, x.len_s)) ∙ times_at i)
