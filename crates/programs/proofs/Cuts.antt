@@ -1,8 +1,8 @@
 -- lists that begin alike, and lists cut in two
-use Rattle.std.proofs.Common.{◌≡◌, ℕ, zero, suc, ◌+◌, ◌<◌, T, List, [], ◌∷◌, ◌++◌, length, get_or, take, drop, replicate, sym, refl, ap, ◌∙◌, suc-add, zero-add, arith, length-take}
-use Rattle.std.proofs.lemmas.List.{get_or-take, take_at, drop_at, take_all}
+use Rattle.std.proofs.Common.{◌≡◌, ℕ, zero, suc, ◌<◌, T, List, [], ◌∷◌, ◌++◌, length, get_or, take, drop, replicate, sym, refl, ap, ◌∙◌, arith, length-take}
+use Rattle.std.proofs.lemmas.List.{get_or-take}
 use Rattle.algebra.specs.Vec.{below}
-use Rattle.algebra.proofs.Vec.{below_cons, below_head, below_tail, cons_≡}
+use Rattle.algebra.proofs.Vec.{below_cons, below_head, below_tail}
 
 -- lists that begin alike have the same numbers there, and reach equally far
 pub same_at : (n i : ℕ) (xs ys : List ℕ) → take n xs ≡ take n ys → i < n → get_or xs i 0 ≡ get_or ys i 0
@@ -10,15 +10,6 @@ same_at n i xs ys e h = sym (get_or-take n xs i 0 h) ∙ ap (λ (l : List ℕ). 
 
 pub same_reach : (n : ℕ) (xs ys : List ℕ) → take (suc n) xs ≡ take (suc n) ys → n < length xs → n < length ys
 same_reach n xs ys e h = omega (arith, ap length e, length-take (suc n) xs, length-take (suc n) ys)
-
--- the beginning of a list, in two parts
-pub take_add : (a j : ℕ) (xs : List ℕ) → take (a + j) xs ≡ take a xs ++ take j (drop a xs)
-take_add zero j xs = ap (λ (n : ℕ). take n xs) (zero-add j)
-take_add (suc a) j [] = rw suc-add (sym (take_all j [] (omega arith)))
-take_add (suc a) j (x ∷ xs) = rw suc-add (cons_≡ refl (take_add a j xs))
-
-pub take_past : (a j : ℕ) (xs ys : List ℕ) → length xs ≡ a → take (a + j) (xs ++ ys) ≡ xs ++ take j ys
-take_past a j xs ys e = take_add a j (xs ++ ys) ∙ cc (take_at xs ys a e, drop_at xs ys a e)
 
 -- the list as its first places and the others
 pub three : (ws : List ℕ) → 2 < length ws → ws ≡ get_or ws 0 0 ∷ get_or ws 1 0 ∷ get_or ws 2 0 ∷ drop 3 ws

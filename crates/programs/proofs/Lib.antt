@@ -7,6 +7,7 @@ pub mod ProgramWords
 pub mod StepRead
 pub mod HeaderRead
 pub mod ProgramRead
+pub mod Refusals
 pub mod Where
 pub mod Turns
 -- runs and laws

@@ -1,13 +1,13 @@
 -- where no step stands behind the steps that were read, no program goes on
 use Rattle.std.proofs.Common.{◌≡◌, ℕ, suc, ◌+◌, ◌-◌, ◌<◌, ◌≤◌, T, List, [], ◌∷◌, ◌++◌, length, take, drop, sym, refl, ap, ◌∙◌, add-suc, arith, length-append, length-drop}
 use Rattle.std.proofs.lemmas.List.{take-append-le, length-take-le}
+use Rattle.std.proofs.Math.Seq.{take-add, take-append-add}
 use Rattle.algebra.proofs.Vec.{and_l, and_i}
 use Rattle.programs.specs.declared.step.Limits as code_limits
 use Rattle.programs.specs.declared.step.Fault.{Fault}
 use Rattle.programs.specs.declared.step.Fault.TheVariants.{Ends, Words, Points, Steps, Point, Kind, Word, Longer}
 use Rattle.programs.specs.Programs.{Step, Program, valid_step, valid_steps, valid, encode_step, encode_steps, encode}
 use Rattle.programs.specs.Reading.{bound, limits_of, StepFault, NoStep, Before, ProgramFault, NoProgram}
-use Rattle.programs.proofs.Cuts.{take_add, take_past}
 use Rattle.programs.proofs.StepsWords.{idle, idle_long, idle_valid}
 use Rattle.programs.proofs.ProgramWords.{program, goes_on, with_others, program_fits, no_program}
 
@@ -50,9 +50,9 @@ module _ (z : code_limits.Limits) (ws : List ℕ) (k m n : ℕ) (ss : List Step)
       same : take (a + i) (encode (program k m (ss ++ ts))) ≡ take (a + i) ws
       same =
           ap (take (a + i)) is
-          ∙ take_past a i (take a ws) (encode_steps ts) cut
+          ∙ (rw cut at (take-append-add (take a ws) (encode_steps ts) i))
           ∙ ap (λ (x : List ℕ). take a ws ++ x) (take-append-le i (encode_step s) (encode_steps rest) r ∙ e)
-          ∙ sym (take_add a i ws)
+          ∙ sym (take-add a i ws)
 
   -- the first word that no step has there is the first that no program has
   pub wrong_step : length ss < n → (i : ℕ) (f : Fault) → NoStep k m (drop a ws) i f → NoProgram (limits_of z) ws (a + i) f

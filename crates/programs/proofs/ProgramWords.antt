@@ -1,13 +1,13 @@
 -- the words of a program: what a header and some steps at their beginning say of the program
 use Rattle.std.proofs.Common.{◌≡◌, ℕ, suc, ◌+◌, ◌<◌, ◌≤◌, ◌&&◌, T, leb, List, [], ◌∷◌, ◌++◌, length, take, drop, sym, refl, ap, ◌∙◌, subst, ap₂, add-one, arith, le→leb, length-append, length-drop, length-take}
 use Rattle.std.proofs.lemmas.List.{append-nil, take-append-drop, take_at, take-take, take_all, drop-take}
+use Rattle.std.proofs.Math.Seq.{take-add}
 use Rattle.algebra.proofs.Vec.{and_i, cons_≡}
 use Rattle.programs.specs.declared.step.Fault.{Fault}
 use Rattle.programs.specs.declared.step.Fault.TheVariants.{Longer}
 use Rattle.programs.specs.Programs.{Limits, Step, Program, valid_step, valid_steps, valid, encode_step, encode_steps, encode, Reads}
 use Rattle.programs.specs.Reading.{Before, ProgramFault, NoProgram}
 use Rattle.programs.proofs.One.{valid_all}
-use Rattle.programs.proofs.Cuts.{take_add}
 use Rattle.programs.proofs.StepsWords.{encode_append, valid_append, valid_push, Behind, behind}
 
 abbrev pub program : ℕ → ℕ → List Step → Program
@@ -83,7 +83,7 @@ module _ (z : Limits) (ws : List ℕ) (k m n : ℕ) (ss : List Step) (a : ℕ) (
         steps = b.steps;
         many = omega (arith, length-append ss (s ∷ []));
         valid = valid_push z.bound k m ss s b.valid v;
-        is = take_add a i ws ∙ ap₂ (λ (x y : List ℕ). x ++ y) b.is front ∙ cons_≡ refl (cons_≡ refl (cons_≡ refl (sym pushed)));
+        is = take-add a i ws ∙ ap₂ (λ (x y : List ℕ). x ++ y) b.is front ∙ cons_≡ refl (cons_≡ refl (cons_≡ refl (sym pushed)));
         size = omega (arith, ap length pushed, length-append (encode_steps ss) (encode_step s), b.size);
         within = omega (arith, length-drop a ws, b.within);
       }

@@ -3,11 +3,12 @@ use Rattle.std.proofs.Common.{◌≡◌, ℕ, ◌+◌, ◌<◌, ◌≤◌, List,
 use Rattle.programs.specs.declared.step.Fault.{Fault}
 use Rattle.programs.specs.declared.step.Fault.TheVariants.{Longer}
 use Rattle.programs.specs.declared.step.Limits as code_limits
+use Rattle.programs.specs.declared.step.Wrong.{Wrong}
 use Rattle.programs.specs.Programs.{Limits, Step, Program, Reads}
 use Rattle.programs.specs.Reading.{bound, limits_of, Starts, NoStep, Before, NoProgram, Started, Left}
 use Rattle.programs.proofs.ProgramWords.{program, more, reads, longer}
 use Rattle.programs.proofs.ProgramRead.{wrong_step}
-use Rattle.programs.proofs.Where.{started_none, started_more, started_full}
+use Rattle.programs.proofs.Where.{started_more, started_full}
 
 -- the counts of the header as limits: the loop has no others at hand
 abbrev pub own : ℕ → ℕ → ℕ → Limits
@@ -19,12 +20,6 @@ pub record Turn (ws : List ℕ) (k m n i at : ℕ) (o o' : List ℕ) : Type 0 wh
   pub many : length steps ≡ i
   pub before : Before (own k m n) ws k m n steps at
   pub started : Started steps o o'
-
-narrow : {z : Limits} {ws : List ℕ} {k m n a : ℕ} → Before z ws k m n [] a → Before (own k m n) ws k m n [] a
-narrow b = record { words = (b.words.0, omega arith); points = (b.points.0, omega arith); steps = omega arith; many = b.many; valid = tt; is = b.is; size = b.size; within = b.within }
-
-pub turn_none : {z : Limits} {ws : List ℕ} {k m n : ℕ} → Before z ws k m n [] 3 → (o : List ℕ) → Turn ws k m n 0 3 o o
-turn_none b o = record { steps = []; many = refl; before = narrow b; started = started_none o }
 
 module _ (ws : List ℕ) (k m n i at : ℕ) (o o' : List ℕ) (t : Turn ws k m n i at o o') where
   abbrev one_more : Step → List Step
@@ -47,8 +42,13 @@ module _ (ws : List ℕ) (k m n i at : ℕ) (o o' : List ℕ) (t : Turn ws k m n
     wide : Before (limits_of z) ws k m n t.steps at
     wide = record { words = b.words; points = b.points; steps = b.steps; many = t.before.many; valid = t.before.valid; is = t.before.is; size = t.before.size; within = t.before.within }
 
-    pub turn_wrong : i < n → (j : ℕ) (f : Fault) → NoStep k m (drop at ws) j f → NoProgram (limits_of z) ws (at + j) f × Left (limits_of z) ws (at + j) o o'
-    turn_wrong l j f h = (wrong_step z ws k m n t.steps at wide (omega (arith, t.many)) j f h, inr (k, m, n, t.steps, at, wide, omega arith, t.started))
+    fault_there : i < n → (j : ℕ) (f : Fault) → NoStep k m (drop at ws) j f → NoProgram (limits_of z) ws (at + j) f × Left (limits_of z) ws (at + j) o o'
+    fault_there l j f h = (wrong_step z ws k m n t.steps at wide (omega (arith, t.many)) j f h, inr (k, m, n, t.steps, at, wide, omega arith, t.started))
+
+    -- the step's fault d, told as the program's fault e
+    pub turn_wrong : i < n → (d e : Wrong) → e.at ≡ at + d.at → e.fault ≡ d.fault → NoStep k m (drop at ws) d.at d.fault
+        → NoProgram (limits_of z) ws e.at e.fault × Left (limits_of z) ws e.at o o'
+    turn_wrong l d e place same h = rw (place, same) (fault_there l d.at d.fault h)
 
     pub turn_longer : i ≡ n → at < length ws → NoProgram (limits_of z) ws at Longer × Left (limits_of z) ws at o o'
     turn_longer e l = (longer (limits_of z) ws k m n t.steps at wide (t.many ∙ e) l, inr (k, m, n, t.steps, at, wide, omega arith, t.started))

@@ -5,9 +5,6 @@ use Rattle.std.proofs.lemmas.Bool.{cases_lt}
 use Rattle.programs.specs.Programs.{Step, encode_steps}
 use Rattle.programs.specs.Reading.{Started}
 
-pub started_none : (o : List ℕ) → Started [] o o
-started_none o = record { len = refl; here = λ j h l. absurd (omega arith); later = λ j h. refl }
-
 module _ (ss : List Step) (s : Step) (o o' : List ℕ) (h : Started ss o o') where
   here_more : (a j : ℕ) → a ≡ 3 + length (encode_steps ss) → (j < length ss) ⊎ (length ss ≤ j) → j ≤ length ss → j < length o
       → get_or (set o' (length ss) a) j 0 ≡ 3 + length (encode_steps (take j (ss ++ s ∷ [])))

@@ -2,6 +2,7 @@
 pub mod Programs
 pub mod Reading
 pub mod Single
+pub mod Reader
 pub mod Runs
 pub mod Kept
 pub mod Theorems

@@ -1,8 +1,9 @@
 //! What the reader of programs takes and answers.
+ghost use Rattle.std.specs.Prelude.{◌≡◌, ◌+◌, ◌^◌, ◌<◌};
 
 /// What a step does: a word becomes a number and so much of each word, a word becomes anything, or nothing changes. The
 /// slice of `Set` is a part of the program's words: the number, then a factor for each word.
-#[derive(Clone, Copy)]
+#[derive(Clone, Copy, PartialEq, Eq, Debug)]
 pub enum Action<'a> {
     Set(usize, &'a [u32]),
     Any(usize),
@@ -10,7 +11,7 @@ pub enum Action<'a> {
 }
 
 /// A step from a point to a point.
-#[derive(Clone, Copy)]
+#[derive(Clone, Copy, PartialEq, Eq, Debug)]
 pub struct Step<'a> {
     pub from: usize,
     pub to: usize,
@@ -18,7 +19,7 @@ pub struct Step<'a> {
 }
 
 /// How large a program may be.
-#[derive(Clone, Copy)]
+#[derive(Clone, Copy, PartialEq, Eq, Debug)]
 pub struct Limits {
     pub words: usize,
     pub points: usize,
@@ -33,6 +34,7 @@ pub const BASE: Limits = Limits {
 };
 
 /// How many words, points and steps a program has.
+// Fields as `Limits` has, and another type: how large a program is can't be given for how large it may be.
 #[derive(Clone, Copy, PartialEq, Eq, Debug)]
 pub struct Header {
     pub words: usize,
@@ -62,8 +64,23 @@ pub enum Fault {
 }
 
 /// The index of the first word that no program has there, and why it has not.
+// `Flaw` of text has this form too, for bytes; no crate lies below both.
 #[derive(Clone, Copy, PartialEq, Eq, Debug)]
 pub struct Wrong {
     pub at: usize,
     pub fault: Fault,
+}
+
+impl Wrong {
+    // What is wrong with words that begin at the word `at` of others, told by its place among those.
+    pub(crate) fn behind(self, at: usize) -> Wrong
+        requires { at + self.at < 2 ^ 64 }
+        ensures place { result.at ≡ at + self.at }
+        ensures same { result.fault ≡ self.fault }
+    {
+        Wrong {
+            at: at + self.at,
+            ..self
+        }
+    }
 }

@@ -1,61 +1,77 @@
-use Rattle.std.proofs.Common.{◌≡◌, ℕ, suc, ◌+◌, ◌-◌, List, take, drop, IsErrAnd, Ok, Err, Result, arith}
+use Rattle.std.proofs.Common.{◌≡◌, ℕ, List, arith}
+use Rattle.std.specs.declared.ops.Bound.TheVariants.{Excluded, Unbounded}
+use Rattle.programs.specs.declared.reader.Reader.{Reader}
 use Rattle.programs.specs.declared.step.Action as code_action
-use Rattle.programs.specs.declared.step.Step as code_step
-use Rattle.programs.specs.declared.step.Wrong.{Wrong}
-use Rattle.programs.specs.Reading.{NoStep, Starts, StepSays, step_of}
-use Rattle.programs.specs.Single.{Below}
-use Rattle.programs.proofs.StepRead.{wrong_from, wrong_to, wrong_kind, wrong_word, wrong_set, starts_set, starts_any, starts_skip}
+use Rattle.programs.specs.Reading.{Starts, StepSays, step_of}
+use Rattle.programs.specs.Single.{There, Inside}
+use Rattle.programs.proofs.Refusals.{refused}
+use Rattle.programs.proofs.StepRead.{wrong_from, wrong_to, missing_kind, wrong_kind, wrong_word, wrong_set, starts_set, starts_any, starts_skip}
 use Rattle.programs.proofs.reader.read_step.Goals as goal
-use Rattle.programs.proofs.reader.read_step.Goals.{in-0+in_ok-word-in-0+else-words-k, in-1+in_ok-below-in-1, in_default}
+use Rattle.programs.proofs.reader.read_step.Goals.{In_ok-word, in-0+in_ok-word_in-in-0+in_ok-numbers-in-0, in-1+in_ok-word_in-in-1, in-2}
 
--- a refusal that is handed on
-refused : (k m : ℕ) (ws : List ℕ) (r : Result (code_step.Step × ℕ) Wrong) (e : Wrong) → IsErrAnd r (λ x. x ≡ e) → NoStep k m ws e.at e.fault → StepSays k m ws r
-refused k m ws (Ok x) e h n = absurd h
-refused k m ws (Err x) e h n = rw h n
-
-kind_is : {ws : List ℕ} {t i : ℕ} → t ≡ i → Below ws 2 3 t → Below ws 2 3 i
-kind_is e h = rw e at h
-
-part : (k : ℕ) (ws : List ℕ) → take (k + 5 - 4) (drop 4 ws) ≡ take (suc k) (drop 4 ws)
-part k ws = let e : k + 5 - 4 ≡ suc k = omega arith in cc
+-- the words read before the action, as words 1 and 2 of the whole; three are read
+before : (c : In_ok-word) → Inside c.args.words.now 1 Unbounded (Excluded c.args.points) c.in_ok-to.to × There c.args.words.now 2 c.in_ok-word.field-0 × ((c.word.new.self.words ≡ c.args.words) × (c.word.new.self.at ≡ 3))
+before c =
+    let one = c.in_ok-from.ensures.read in
+    let two = rw (one.0, one.1) at c.in_ok-to.ensures.read in
+    (rw (one.0, one.1) at c.in_ok-to.ensures.says, rw (two.0, two.1) at c.in_ok-word.ensures.says, rw (two.0, two.1) at c.in_ok-word.ensures.read)
 
 pub returns-in_err-from : goal.returns-in_err-from
-returns-in_err-from c = refused _ _ _ c.from_residual.result _ c.from_residual.ensures.1 (wrong_from _ _ _ c.in_err-from.field-0.0 c.in_err-from.ensures)
+returns-in_err-from c =
+    refused (StepSays _ _ _) c.from_residual.ensures.1 (wrong_from _ _ _ c.in_err-from.field-0.0 c.in_err-from.ensures.says)
 
 pub returns-in_err-to : goal.returns-in_err-to
-returns-in_err-to c = refused _ _ _ c.from_residual-in_err-to.result _ c.from_residual-in_err-to.ensures.1 (wrong_to _ _ _ c.in_ok-from.ensures c.in_err-to.field-0.0 c.in_err-to.ensures)
+returns-in_err-to c =
+    let one = c.in_ok-from.ensures.read in
+    refused (StepSays _ _ _) c.from_residual-in_err-to.ensures.1 (wrong_to _ _ _ c.in_ok-from.ensures.says c.in_err-to.field-0.0 (rw (one.0, one.1) at c.in_err-to.ensures.says))
 
-pub returns-in_err-kind : goal.returns-in_err-kind
-returns-in_err-kind c =
-    refused _ _ _ c.from_residual-in_err-kind.result _ c.from_residual-in_err-kind.ensures.1
-    (wrong_kind _ _ _ c.in_ok-from.ensures c.in_ok-to.ensures c.in_err-kind.field-0.0 c.in_err-kind.ensures)
+pub returns-in_err-word : goal.returns-in_err-word
+returns-in_err-word c =
+    let one = c.in_ok-from.ensures.read in
+    let q = rw (one.0, one.1) at c.in_ok-to.ensures.says in
+    let two = rw (one.0, one.1) at c.in_ok-to.ensures.read in
+    refused (StepSays _ _ _) c.from_residual-in_err-word.ensures.1 (missing_kind _ _ _ c.in_ok-from.ensures.says q c.in_err-word.field-0.0 (rw (two.0, two.1) at c.in_err-word.ensures.says))
 
-pub returns-in_err-word-in-0 : goal.returns-in_err-word-in-0
-returns-in_err-word-in-0 c =
-    refused _ _ _ c.from_residual-in_err-word-in-0.result _ c.from_residual-in_err-word-in-0.ensures.1
-    (wrong_word _ _ _ c.in_ok-from.ensures c.in_ok-to.ensures c.in_ok-kind.ensures (omega (arith, c.in-0.is)) c.in_err-word-in-0.field-0.0 c.in_err-word-in-0.ensures)
+pub returns-in_err-word_in-in-0 : goal.returns-in_err-word_in-in-0
+returns-in_err-word_in-in-0 c =
+    let b = before (goal.at.returns-in_err-word_in-in-0 c).In_ok-word in
+    refused (StepSays _ _ _) c.from_residual-in_err-word_in-in-0.ensures.1 (wrong_word _ _ _ c.in_ok-from.ensures.says b.0 b.1 (omega (arith, c.in-0.is)) c.in_err-word_in-in-0.field-0.0 (rw (b.2.0, b.2.1) at c.in_err-word_in-in-0.ensures.says))
 
-pub returns-then-words-k : goal.returns-then-words-k
-returns-then-words-k c =
-    let w = c.in_ok-word-in-0.ensures in
-    wrong_set _ _ _ c.in_ok-from.ensures c.in_ok-to.ensures (λ i. (c.type_inv.words i).fits) (kind_is c.in-0.is c.in_ok-kind.ensures) w (omega arith)
+pub returns-in_err-numbers-in-0 : goal.returns-in_err-numbers-in-0
+returns-in_err-numbers-in-0 c =
+    let b = before (goal.at.returns-in_err-numbers-in-0 c).In_ok-word in
+    let w = rw (b.2.0, b.2.1) at c.in_ok-word_in-in-0.ensures.says in
+    let four = rw (b.2.0, b.2.1) at c.in_ok-word_in-in-0.ensures.read in
+    refused (StepSays _ _ _) c.from_residual-in_err-numbers-in-0.ensures.1 (wrong_set _ _ _ c.in_ok-from.ensures.says b.0 (λ i. (c.type_inv.words i).fits) (rw c.in-0.is at b.1) w c.in_err-numbers-in-0.field-0.0 (rw (four.0, four.1) at c.in_err-numbers-in-0.ensures.says))
 
-pub returns-in_err-below-in-1 : goal.returns-in_err-below-in-1
-returns-in_err-below-in-1 c =
-    refused _ _ _ c.from_residual-in_err-below-in-1.result _ c.from_residual-in_err-below-in-1.ensures.1
-    (wrong_word _ _ _ c.in_ok-from.ensures c.in_ok-to.ensures c.in_ok-kind.ensures (omega (arith, c.in-1.is)) c.in_err-below-in-1.field-0.0 c.in_err-below-in-1.ensures)
+pub returns-in_err-word_in-in-1 : goal.returns-in_err-word_in-in-1
+returns-in_err-word_in-in-1 c =
+    let b = before (goal.at.returns-in_err-word_in-in-1 c).In_ok-word in
+    refused (StepSays _ _ _) c.from_residual-in_err-word_in-in-1.ensures.1 (wrong_word _ _ _ c.in_ok-from.ensures.says b.0 b.1 (omega (arith, c.in-1.is)) c.in_err-word_in-in-1.field-0.0 (rw (b.2.0, b.2.1) at c.in_err-word_in-in-1.ensures.says))
 
--- what the arms of the match make
-made : {k m : ℕ} {ws : List ℕ} (x y : ℕ) (r s : code_action.Action × ℕ) → r ≡ s → Starts k m ws (step_of (record { from = x; to = y; action = s.0 })) s.1 → Starts k m ws (step_of (record { from = x; to = y; action = r.0 })) r.1
-made x y r s e h = rw e h
+pub returns-in_default : goal.returns-in_default
+returns-in_default c =
+    let b = before (goal.at.returns-in_default c).In_ok-word in
+    wrong_kind _ _ _ c.in_ok-from.ensures.says b.0 b.1 (omega arith)
+
+-- what the arms of the match make, and how far they read
+made : {k m : ℕ} {ws : List ℕ} (x y : ℕ) {d e : code_action.Action} {r u : Reader} {n : ℕ} → d ≡ e → r ≡ u → u.at ≡ n → Starts k m ws (step_of (record { from = x; to = y; action = e })) n → Starts k m ws (step_of (record { from = x; to = y; action = d })) r.at
+made x y p q l h = rw (p, q, l) h
 
 pub returns : goal.returns
 returns c =
-    let p = c.in_ok-from.ensures in
-    let q = c.in_ok-to.ensures in
-    let t = c.in_ok-kind.ensures in
-    elim c.match-kind.branch [
-      | in-0+in_ok-word-in-0+else-words-k w ↦ made _ _ c.match-kind.n _ w.n-is (starts_set _ _ _ p q (λ i. (c.type_inv.words i).fits) (kind_is w.in-0.is t) w.in_ok-word-in-0.ensures (omega (arith, w.in_ok-word-in-0.ensures, w.if-words-k.false)) _ (part c.args.k c.args.words.now))
-      | in-1+in_ok-below-in-1 w ↦ made _ _ c.match-kind.n _ w.n-is (starts_any _ _ _ p q (kind_is w.in-1.is t) w.in_ok-below-in-1.ensures)
-      | in_default w ↦ made _ _ c.match-kind.n _ w.n-is (starts_skip _ _ _ p q (kind_is (omega arith) t))
+    let p = c.in_ok-from.ensures.says in
+    let b = before (goal.at.returns c).In_ok-word in
+    elim c.match-branch-4.branch [
+      | in-0+in_ok-word_in-in-0+in_ok-numbers-in-0 w ↦
+          let v = rw (b.2.0, b.2.1) at w.in_ok-word_in-in-0.ensures.says in
+          let four = rw (b.2.0, b.2.1) at w.in_ok-word_in-in-0.ensures.read in
+          let ns = rw (four.0, four.1) at w.in_ok-numbers-in-0.ensures.says in
+          let end = rw (four.0, four.1) at w.in_ok-numbers-in-0.ensures.read in
+          made _ _ w.action-is w.reader-is end.1 (starts_set _ _ _ p b.0 (λ i. (c.type_inv.words i).fits) (rw w.in-0.is at b.1) v ns)
+      | in-1+in_ok-word_in-in-1 w ↦
+          let v = rw (b.2.0, b.2.1) at w.in_ok-word_in-in-1.ensures.says in
+          let four = rw (b.2.0, b.2.1) at w.in_ok-word_in-in-1.ensures.read in
+          made _ _ w.action-is w.reader-is four.1 (starts_any _ _ _ p b.0 (rw w.in-1.is at b.1) v)
+      | in-2 w ↦ made _ _ w.action-is w.reader-is b.2.1 (starts_skip _ _ _ p b.0 (rw w.in-2.is at b.1))
     ]
