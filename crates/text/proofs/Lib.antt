@@ -1,8 +1,6 @@
 pub mod Readback
 pub mod Settling
 pub mod Reading
-pub mod Fronts
-pub mod Counting
-pub mod Starts
+pub mod Parts
 pub mod Prefixes
-pub mod Sought
+pub mod Found

@@ -6,10 +6,11 @@ use Rattle.std.proofs.lemmas.Bool.{cond-true, cond-false, ne_eqb}
 use Rattle.std.proofs.lemmas.Bool.Decides.{nat_tests}
 use Rattle.text.specs.Bytes.{white}
 use Rattle.text.specs.Entries.{Entry, written, Proper, numbers_of}
-use Rattle.text.specs.Turns.{turn_of, mode_after_white, grown}
+use Rattle.text.specs.Turns.{turn_of, mode_after_white, digits_so_far, grown}
 use Rattle.text.specs.Numbers.{Meaning, after, continued, meaning, meaning_of, answer_of, store_of, ReadBack}
 use Rattle.text.specs.declared.modes.Mode.{Mode}
 use Rattle.text.specs.declared.modes.Mode.TheVariants.{LineStart, Gap, Comment, Number}
+use Rattle.text.specs.declared.modes.Turn.{Turn}
 use Rattle.text.specs.declared.modes.Turn.TheVariants.{Goes, Ends}
 use Rattle.text.specs.declared.types.Flaw.{Flaw}
 
@@ -18,35 +19,39 @@ abbrev Ready : Mode → Type 0
 Ready LineStart = Unit {0}
 Ready Gap = Unit {0}
 Ready Comment = ⊥
-Ready (Number from value) = ⊥
+Ready (Number d) = ⊥
 
 ready_after : (s : ℕ) → Ready (mode_after_white s)
 ready_after s = elim (eqb s 10) as (λ t. Ready (cond t LineStart Gap)) [ true ↦ tt | false ↦ tt ]
 
-grown_digit : (from value d : ℕ) → d < 10 → value * 10 + d < 4294967296 → grown from value (48 + d) ≡ Goes (Number from (value * 10 + d))
+-- a digit was read, and the digits so far have this value
+abbrev reading : ℕ → ℕ → Result Turn Flaw
+reading from value = Ok (Goes (Number (digits_so_far from value)))
+
+grown_digit : (from value d : ℕ) → d < 10 → value * 10 + d < 4294967296 → grown (digits_so_far from value) (48 + d) ≡ reading from (value * 10 + d)
 grown_digit from value d h small = let e : 48 + d - 48 ≡ d = omega arith in grind (arith, nat_tests)
 
 not_white : (d : ℕ) → d < 10 → white (48 + d) ≡ false
 not_white d h = grind (arith, nat_tests)
 
-grown_first : (at d : ℕ) → d < 10 → cond (white (48 + d)) (Goes (mode_after_white (48 + d))) (grown at 0 (48 + d)) ≡ Goes (Number at d)
+grown_first : (at d : ℕ) → d < 10 → cond (white (48 + d)) (Ok (Goes (mode_after_white (48 + d)))) (grown (digits_so_far at 0) (48 + d)) ≡ reading at d
 grown_first at d h =
     let e : 0 * 10 + d ≡ d = omega arith in
-    cond-false _ _ _ (not_white d h) ∙ grown_digit at 0 d h (omega arith) ∙ ap (λ v. Goes (Number at v)) e
+    cond-false _ _ _ (not_white d h) ∙ grown_digit at 0 d h (omega arith) ∙ ap (reading at) e
 
-first_digit : (mode : Mode) (at d : ℕ) → Ready mode → d < 10 → turn_of mode at (48 + d) ≡ Goes (Number at d)
+first_digit : (mode : Mode) (at d : ℕ) → Ready mode → d < 10 → turn_of mode at (48 + d) ≡ reading at d
 first_digit LineStart at d r h = cond-false _ _ _ (ne_eqb (48 + d) 35 (λ e. omega arith)) ∙ grown_first at d h
 first_digit Gap at d r h = grown_first at d h
 first_digit Comment at d r h = absurd r
-first_digit (Number from value) at d r h = absurd r
+first_digit (Number digits) at d r h = absurd r
 
-next_digit : (from value at d : ℕ) → d < 10 → value * 10 + d < 4294967296 → turn_of (Number from value) at (48 + d) ≡ Goes (Number from (value * 10 + d))
+next_digit : (from value at d : ℕ) → d < 10 → value * 10 + d < 4294967296 → turn_of (Number (digits_so_far from value)) at (48 + d) ≡ reading from (value * 10 + d)
 next_digit from value at d h small = cond-false _ _ _ (not_white d h) ∙ grown_digit from value d h small
 
 -- the digits ds of n, read from a place where a number may begin
 abbrev DigitsRead : ℕ → List ℕ → Type 0
 DigitsRead n ds =
-    n < 4294967296 → (room : ℕ) (mode : Mode) (at : ℕ) (rest : List ℕ) → Ready mode → meaning room mode at (ds ++ rest) ≡ meaning room (Number at n) (at + length ds) rest
+    n < 4294967296 → (room : ℕ) (mode : Mode) (at : ℕ) (rest : List ℕ) → Ready mode → meaning room mode at (ds ++ rest) ≡ meaning room (Number (digits_so_far at n)) (at + length ds) rest
 
 one_digit : (n : ℕ) → n < 10 → DigitsRead n ((48 + n) ∷ [])
 one_digit n h small room mode at rest r =
@@ -60,21 +65,21 @@ more_digits n ds big front small room mode at rest r =
     let split = ap (meaning room mode at) (append_assoc ds ((48 + n % 10) ∷ []) rest) in
     let before = front (omega arith) room mode at ((48 + n % 10) ∷ rest) r in
     let turn = ap (λ t. continued t room (λ left next. meaning left next (at + length ds + 1) rest)) last in
-    split ∙ before ∙ turn ∙ (λ k. meaning room (Number at (whole k)) (end k) rest)
+    split ∙ before ∙ turn ∙ (λ k. meaning room (Number (digits_so_far at (whole k))) (end k) rest)
 
 digits_read : (n : ℕ) → n < 4294967296 → DigitsRead n (decimal n)
 digits_read n small = decimal_by_steps DigitsRead one_digit more_digits n (omega arith)
 
 -- white space ends the number
-ended : (room from value at s : ℕ) (rest : List ℕ) → white s ≡ true → meaning (suc room) (Number from value) at (s ∷ rest) ≡ after (value ∷ []) (meaning room (mode_after_white s) (at + 1) rest)
+ended : (room from value at s : ℕ) (rest : List ℕ) → white s ≡ true → meaning (suc room) (Number (digits_so_far from value)) at (s ∷ rest) ≡ after (value ∷ []) (meaning room (mode_after_white s) (at + 1) rest)
 ended room from value at s rest w =
-    ap (λ t. continued t (suc room) (λ left next. meaning left next (at + 1) rest)) (cond-true (white s) (Ends from value (mode_after_white s)) (grown from value s) w)
+    ap (λ t. continued t (suc room) (λ left next. meaning left next (at + 1) rest)) (cond-true (white s) (Ok (Ends (digits_so_far from value) (mode_after_white s))) (grown (digits_so_far from value) s) w)
 
 entries_read : (es : List Entry) → Proper es → (room : ℕ) (mode : Mode) (at : ℕ) → Ready mode → length es ≤ room → meaning room mode at (written es) ≡ record { numbers = numbers_of es; flaw = None }
 entries_read [] p room LineStart at r fits = refl
 entries_read [] p room Gap at r fits = refl
 entries_read [] p room Comment at r fits = absurd r
-entries_read [] p room (Number from value) at r fits = absurd r
+entries_read [] p room (Number d) at r fits = absurd r
 entries_read (e ∷ es) p zero mode at r fits = absurd (omega arith)
 entries_read (e ∷ es) p (suc room) mode at r fits =
     let digits = digits_read e.number p.0 p.0 (suc room) mode at (e.space ∷ written es) r in

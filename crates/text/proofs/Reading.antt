@@ -1,44 +1,26 @@
 -- The loop of the reader of numbers: its invariant, its calls, and what it has read at the end.
-use Rattle.std.proofs.Common.{◌≡◌, ℕ, ◌+◌, ◌-◌, ◌<◌, List, [], ◌++◌, length, get_or, take, drop, Ok, Err, Result, sym, refl, ap, ◌∙◌, subst, arith}
+use Rattle.std.proofs.Common.{◌≡◌, ℕ, ◌+◌, ◌-◌, ◌<◌, List, [], ◌++◌, length, get_or, take, drop, Ok, Err, sym, refl, ap, ◌∙◌, subst, arith}
 use Rattle.std.proofs.lemmas.List.{append-nil, take-append-drop, length-take-le, at_drop_more, at_drop_all}
 use Rattle.text.specs.Turns.{turn_of}
-use Rattle.text.specs.Storing.{settled, stored}
 use Rattle.text.specs.Numbers.{Meaning, flawed, fine, meaning, meaning_of, answered, answer_of, store_of, Reads}
 use Rattle.text.proofs.Readback.{read_back}
-use Rattle.text.proofs.Settling.{Holds, Called}
+use Rattle.text.proofs.Settling.{Holds, Before}
 use Rattle.text.specs.declared.modes.Mode.{Mode}
-use Rattle.text.specs.declared.modes.Turn.{Turn}
 use Rattle.text.specs.declared.types.Flaw.{Flaw}
 
 abbrev pub Sofar : List ℕ → List ℕ → ℕ → ℕ → Mode → List ℕ → Type 0
 Sofar text was at count mode out = Holds (meaning_of (length was) text) was count out (meaning (length was - count) mode at (drop at text))
 
--- the call at the byte at `at`, and the one at the end of the text
-module _ (text was out exit : List ℕ) (at count : ℕ) (mode : Mode) (t : Turn) (r : Result (ℕ × Mode) Flaw) where
-  abbrev pub AtByte : Type 0
-  AtByte =
-      Called (meaning_of (length was) text) was out exit count (λ left next. meaning left next (at + 1) (drop (at + 1) text)) t (turn_of mode at (get_or text at 0)) r
+module _ (text was out : List ℕ) (at count : ℕ) (mode : Mode) (h : Sofar text was at count mode out) where
+  -- at the byte at `at`
+  pub before_byte : at < length text → Before (meaning_of (length was) text) was out count (λ left next. meaning left next (at + 1) (drop (at + 1) text)) (turn_of mode at (get_or text at 0))
+  before_byte lt = subst (Holds _ was count out) (at_drop_more (meaning (length was - count) mode at) text at 0 lt) h
 
-  abbrev pub AtEnd : Type 0
-  AtEnd = Called (meaning_of (length was) text) was out exit count (λ _ _. fine) t (turn_of mode (length text) 10) r
-
-  pub at_byte : at < length text → Sofar text was at count mode out → t ≡ turn_of mode at (get_or text at 0) → r ≡ settled t count (length out) → exit ≡ stored t count out → AtByte
-  at_byte lt h turned answer store = record {
-    before = subst (Holds _ was count out) (at_drop_more (meaning (length was - count) mode at) text at 0 lt) h;
-    turned = turned;
-    answer = answer;
-    store = store;
-  }
-
-  pub at_end : at ≡ length text → Sofar text was at count mode out → t ≡ turn_of mode (length text) 10 → r ≡ settled t count (length out) → exit ≡ stored t count out → AtEnd
-  at_end e h turned answer store =
+  -- and at the end of the text
+  pub before_end : at ≡ length text → Before (meaning_of (length was) text) was out count (λ _ _. fine) (turn_of mode (length text) 10)
+  before_end e =
       let none : drop at text ≡ [] = at_drop_all (λ xs. xs) text at (omega arith) in
-      record {
-        before = subst (Holds _ was count out) (ap (meaning (length was - count) mode at) none ∙ ap (λ n. meaning (length was - count) mode n []) e) h;
-        turned = turned;
-        answer = answer;
-        store = store;
-      }
+      subst (Holds _ was count out) (ap (meaning (length was - count) mode at) none ∙ ap (λ n. meaning (length was - count) mode n []) e) h
 
 -- no number is left: those of the meaning stand in front
 module _ (text was out : List ℕ) (count : ℕ) where

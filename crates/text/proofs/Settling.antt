@@ -7,7 +7,7 @@ use Rattle.text.specs.Storing.{settled, stored}
 use Rattle.text.specs.Numbers.{Meaning, flawed, after, continued}
 use Rattle.text.specs.declared.modes.Mode.{Mode}
 use Rattle.text.specs.declared.modes.Turn.{Turn}
-use Rattle.text.specs.declared.modes.Turn.TheVariants.{Goes, Ends, Refused}
+use Rattle.text.specs.declared.modes.Turn.TheVariants.{Goes, Ends}
 use Rattle.text.specs.declared.types.Flaw.{Flaw}
 use Rattle.text.specs.declared.types.What.TheVariants.{TooMany}
 
@@ -36,51 +36,53 @@ apart : {A : Type 0} (next : ℕ × Mode) (f : Flaw) → ◌≡◌ {A = Result (
 apart next f e = let z : ◌≡◌ {A = ℕ} 0 1 = cc in absurd (omega arith)
 
 module _ (m : Meaning) (was out : List ℕ) (count : ℕ) (rest : ℕ → Mode → Meaning) where
-  abbrev Before : Turn → Type 0
-  Before t = Holds m was count out (continued t (length was - count) rest)
+  -- what is left of the meaning, where a byte makes this of the mode
+  abbrev pub Before : Result Turn Flaw → Type 0
+  Before u = Holds m was count out (continued u (length was - count) rest)
 
   abbrev After : Turn → ℕ × Mode → Type 0
   After t next = Holds m was next.0 (stored t count out) (rest (length was - next.0) next.1)
 
-  pub settles : (t : Turn) (next : ℕ × Mode) → settled t count (length was) ≡ Ok next → Before t → After t next
+  pub refused : (u : Result Turn Flaw) (f : Flaw) → u ≡ Err f → Before u → Holds m was count out (flawed f)
+  refused u f e h = subst Before e h
+
+  settles : (t : Turn) (next : ℕ × Mode) → settled t count (length was) ≡ Ok next → Before (Ok t) → After t next
   settles (Goes mode) next e h = let is : (count, mode) ≡ next = cc in subst (After (Goes mode)) is h
-  settles (Ends from value mode) next e h =
+  settles (Ends d mode) next e h =
       ⊎_elim
       (λ lt.
-      let is : (count + 1, mode) ≡ next = cc (cond-true {A = Result (ℕ × Mode) Flaw} _ (Ok (count + 1, mode)) (Err (flaw_at from TooMany)) (lt-ltb count (length was) lt)) in
+      let is : (count + 1, mode) ≡ next = cc (cond-true {A = Result (ℕ × Mode) Flaw} _ (Ok (count + 1, mode)) (Err (flaw_at d.from TooMany)) (lt-ltb count (length was) lt)) in
       let one : length was - count ≡ suc (length was - (count + 1)) = omega arith in
-      subst (After (Ends from value mode)) is
-      (stored_more m was out count value _ lt (subst (λ k. Holds m was count out (continued (Ends from value mode) k rest)) one h)))
-      (λ ge. apart next (flaw_at from TooMany) (sym e ∙ cond-false _ _ _ (le-ltb count (length was) ge)))
+      subst (After (Ends d mode)) is
+      (stored_more m was out count d.value _ lt (subst (λ k. Holds m was count out (continued (Ok (Ends d mode)) k rest)) one h)))
+      (λ ge. apart next (flaw_at d.from TooMany) (sym e ∙ cond-false _ _ _ (le-ltb count (length was) ge)))
       (cases_lt count (length was))
-  settles (Refused f) next e h = apart next f (sym e)
 
-  pub stops : (t : Turn) (f : Flaw) → settled t count (length was) ≡ Err f → Before t → Holds m was count (stored t count out) (flawed f)
+  stops : (t : Turn) (f : Flaw) → settled t count (length was) ≡ Err f → Before (Ok t) → Holds m was count (stored t count out) (flawed f)
   stops (Goes mode) f e h = apart (count, mode) f e
-  stops (Ends from value mode) f e h =
+  stops (Ends d mode) f e h =
       ⊎_elim
       (λ lt. apart (count + 1, mode) f (sym (cond-true _ _ _ (lt-ltb count (length was) lt)) ∙ e))
       (λ ge.
-      let is : flaw_at from TooMany ≡ f = cc (cond-false {A = Result (ℕ × Mode) Flaw} _ (Ok (count + 1, mode)) (Err (flaw_at from TooMany)) (le-ltb count (length was) ge)) in
+      let is : flaw_at d.from TooMany ≡ f = cc (cond-false {A = Result (ℕ × Mode) Flaw} _ (Ok (count + 1, mode)) (Err (flaw_at d.from TooMany)) (le-ltb count (length was) ge)) in
       let none : length was - count ≡ 0 = omega arith in
-      let same = subst (λ k. Holds m was count out (continued (Ends from value mode) k rest)) none h in
-      subst (λ xs. Holds m was count xs (flawed f)) (sym (set_past out count value (omega (arith, h.len)))) (subst (λ g. Holds m was count out (flawed g)) is same))
+      let same = subst (λ k. Holds m was count out (continued (Ok (Ends d mode)) k rest)) none h in
+      subst (λ xs. Holds m was count xs (flawed f)) (sym (set_past out count d.value (omega (arith, h.len)))) (subst (λ g. Holds m was count out (flawed g)) is same))
       (cases_lt count (length was))
-  stops (Refused g) f e h = let is : g ≡ f = cc in subst (λ x. Holds m was count out (flawed x)) is h
 
 -- a call of `settle` on the turn t, which leaves `exit`
-module _ (m : Meaning) (was out exit : List ℕ) (count : ℕ) (rest : ℕ → Mode → Meaning) (t u : Turn) (r : Result (ℕ × Mode) Flaw) where
+module _ (m : Meaning) (was out exit : List ℕ) (count : ℕ) (rest : ℕ → Mode → Meaning) (t : Turn) (u : Result Turn Flaw) (r : Result (ℕ × Mode) Flaw) where
   pub record Called : Type 0 where
-    pub before : Holds m was count out (continued u (length was - count) rest)
-    pub turned : t ≡ u
+    pub before : Before m was out count rest u
+    pub turned : u ≡ Ok t
     pub answer : r ≡ settled t count (length out)
     pub store : exit ≡ stored t count out
 
   size_is : Called → r ≡ settled t count (length was)
   size_is h = h.answer ∙ ap (settled t count) h.before.len
 
-  at_turn : Called → Holds m was count out (continued t (length was - count) rest)
-  at_turn h = subst (λ v. Holds m was count out (continued v (length was - count) rest)) (sym h.turned) h.before
+  at_turn : Called → Before m was out count rest (Ok t)
+  at_turn h = subst (Before m was out count rest) h.turned h.before
 
   pub called_ok : (next : ℕ × Mode) → r ≡ Ok next → Called → Holds m was next.0 exit (rest (length was - next.0) next.1)
   called_ok next e h =

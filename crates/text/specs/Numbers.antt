@@ -5,7 +5,7 @@ use Rattle.text.specs.Turns.{turn_of, flaw_at}
 use Rattle.text.specs.declared.modes.Mode.{Mode}
 use Rattle.text.specs.declared.modes.Mode.TheVariants.{LineStart}
 use Rattle.text.specs.declared.modes.Turn.{Turn}
-use Rattle.text.specs.declared.modes.Turn.TheVariants.{Goes, Ends, Refused}
+use Rattle.text.specs.declared.modes.Turn.TheVariants.{Goes, Ends}
 use Rattle.text.specs.declared.types.Flaw.{Flaw}
 use Rattle.text.specs.declared.types.What.TheVariants.{TooMany}
 
@@ -25,11 +25,11 @@ abbrev pub after : List ℕ → Meaning → Meaning
 after ns m = record { numbers = ns ++ m.numbers; flaw = m.flaw }
 
 -- a turn with so much room left, where `rest` says what follows
-abbrev pub continued : Turn → ℕ → (ℕ → Mode → Meaning) → Meaning
-continued (Goes mode) room rest = rest room mode
-continued (Ends from value mode) zero rest = flawed (flaw_at from TooMany)
-continued (Ends from value mode) (suc room) rest = after (value ∷ []) (rest room mode)
-continued (Refused f) room rest = flawed f
+abbrev pub continued : Result Turn Flaw → ℕ → (ℕ → Mode → Meaning) → Meaning
+continued (Ok (Goes mode)) room rest = rest room mode
+continued (Ok (Ends d mode)) zero rest = flawed (flaw_at d.from TooMany)
+continued (Ok (Ends d mode)) (suc room) rest = after (d.value ∷ []) (rest room mode)
+continued (Err f) room rest = flawed f
 
 -- what is left of a text, from the offset `at`; the end of the text ends a number as a line feed would
 abbrev pub meaning : ℕ → Mode → ℕ → List ℕ → Meaning

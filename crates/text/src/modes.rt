@@ -1,5 +1,11 @@
 //! Where the reader of numbers stands, and what a byte makes of that.
-use crate::types::Flaw;
+
+/// The digits of a token so far: where it began, and their value.
+#[derive(Clone, Copy)]
+pub struct Digits {
+    pub from: usize,
+    pub value: u32,
+}
 
 #[derive(Clone, Copy)]
 pub enum Mode {
@@ -7,14 +13,12 @@ pub enum Mode {
     LineStart,
     Gap,
     Comment,
-    /// In a token: where it began, and the value of its digits so far.
-    Number(usize, u32),
+    Number(Digits),
 }
 
 #[derive(Clone, Copy)]
 pub enum Turn {
     Goes(Mode),
-    /// A number ends: where it began, and its value.
-    Ends(usize, u32, Mode),
-    Refused(Flaw),
+    /// A number ends.
+    Ends(Digits, Mode),
 }

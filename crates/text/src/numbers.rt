@@ -5,7 +5,7 @@ ghost use Rattle.text.specs.Storing.{settled, stored};
 ghost use Rattle.text.specs.Numbers.{Reads};
 
 use crate::bytes::is_white;
-use crate::modes::{Mode, Turn};
+use crate::modes::{Digits, Mode, Turn};
 use crate::types::{Flaw, What};
 
 fn after_white(byte: u8) -> Mode
@@ -18,52 +18,37 @@ fn after_white(byte: u8) -> Mode
     }
 }
 
-// One more byte of the token that began at `from`. The first byte that is wrong decides what the token lacks.
-fn grow(from: usize, value: u32, byte: u8) -> Turn
-    ensures { result ≡ grown from value byte }
+// One more byte of a token. The first byte that is wrong decides what the token lacks.
+fn grow(digits: Digits, byte: u8) -> Result<Turn, Flaw>
+    ensures { result ≡ grown digits byte }
 {
-    if byte < b'0' || byte > b'9' {
-        return Turn::Refused(Flaw {
-            at: from,
-            what: What::NoNumber,
-        });
-    }
-    let value = value as u64 * 10 + (byte - b'0') as u64;
-    if value < 0x1_0000_0000 {
-        Turn::Goes(Mode::Number(from, value as u32))
-    } else {
-        Turn::Refused(Flaw {
-            at: from,
-            what: What::TooLarge,
-        })
-    }
+    let lacks = |what| Flaw {
+        at: digits.from,
+        what,
+    };
+    let digit = char::from(byte)
+        .to_digit(10)
+        .ok_or_else(|| lacks(What::NoNumber))?;
+    let value = digits
+        .value
+        .checked_mul(10)
+        .and_then(|value| value.checked_add(digit))
+        .ok_or_else(|| lacks(What::TooLarge))?;
+    Ok(Turn::Goes(Mode::Number(Digits { value, ..digits })))
 }
 
 // What the byte at the offset `at` makes of the mode.
-fn turn_of(mode: Mode, at: usize, byte: u8) -> Turn
+fn turn_of(mode: Mode, at: usize, byte: u8) -> Result<Turn, Flaw>
     ensures { result ≡ turn_of mode at byte }
 {
     match mode {
-        Mode::Comment => Turn::Goes(if byte == b'\n' {
-            Mode::LineStart
-        } else {
-            Mode::Comment
-        }),
-        Mode::LineStart if byte == b'#' => Turn::Goes(Mode::Comment),
-        Mode::Number(from, value) => {
-            if is_white(byte) {
-                Turn::Ends(from, value, after_white(byte))
-            } else {
-                grow(from, value, byte)
-            }
-        }
-        _ => {
-            if is_white(byte) {
-                Turn::Goes(after_white(byte))
-            } else {
-                grow(at, 0, byte)
-            }
-        }
+        Mode::Comment if byte == b'\n' => Ok(Turn::Goes(Mode::LineStart)),
+        Mode::Comment => Ok(Turn::Goes(Mode::Comment)),
+        Mode::LineStart if byte == b'#' => Ok(Turn::Goes(Mode::Comment)),
+        Mode::Number(digits) if is_white(byte) => Ok(Turn::Ends(digits, after_white(byte))),
+        Mode::Number(digits) => grow(digits, byte),
+        _ if is_white(byte) => Ok(Turn::Goes(after_white(byte))),
+        _ => grow(Digits { from: at, value: 0 }, byte),
     }
 }
 
@@ -74,17 +59,16 @@ fn settle(turn: Turn, out: &mut [u32], count: usize) -> Result<(usize, Mode), Fl
 {
     match turn {
         Turn::Goes(mode) => Ok((count, mode)),
-        Turn::Ends(from, value, mode) => {
+        Turn::Ends(number, mode) => {
             if count >= out.len() {
                 return Err(Flaw {
-                    at: from,
+                    at: number.from,
                     what: What::TooMany,
                 });
             }
-            out[count] = value;
+            out[count] = number.value;
             Ok((count + 1, mode))
         }
-        Turn::Refused(flaw) => Err(flaw),
     }
 }
 
@@ -94,11 +78,14 @@ pub fn read_numbers(text: &[u8], out: &mut [u32]) -> Result<usize, Flaw>
     ensures { Reads text.now out.old out.new result }
 {
     let mut mode = Mode::LineStart;
+    // Nothing is allocated: the numbers stand in front of what is lent, and the answer counts them.
     let mut count = 0;
     for (at, byte) in text.iter().enumerate() {
-        (count, mode) = settle(turn_of(mode, at, *byte), out, count)?;
+        let turn = turn_of(mode, at, *byte)?;
+        (count, mode) = settle(turn, out, count)?;
     }
     // The end of the text ends a number, as a line feed would.
-    let (count, _) = settle(turn_of(mode, text.len(), b'\n'), out, count)?;
+    let last = turn_of(mode, text.len(), b'\n')?;
+    let (count, _) = settle(last, out, count)?;
     Ok(count)
 }

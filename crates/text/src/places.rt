@@ -10,17 +10,9 @@ use crate::types::Place;
 pub fn place(text: &[u8], at: usize) -> Place
     ensures { result ≡ place_of (take at text.now) }
 {
-    let mut line = 1;
-    let mut column = 1;
-    let front = &text[0..at.min(text.len())];
-    for byte in front {
-        if *byte == b'\n' {
-            line += 1;
-            column = 1;
-        } else {
-            column += 1;
-        }
-    }
+    let front = &text[..at.min(text.len())];
+    let line = 1 + front.iter().filter(|b| **b == b'\n').count();
+    let column = 1 + front.iter().rev().take_while(|b| **b != b'\n').count();
     Place { line, column }
 }
 
@@ -29,10 +21,6 @@ pub fn token(text: &[u8], from: usize) -> &[u8]
     ensures { result.now ≡ word (drop from text.now) }
 {
     let rest = &text[from.min(text.len())..];
-    for (i, byte) in rest.iter().enumerate() {
-        if is_white(*byte) {
-            return &rest[0..i];
-        }
-    }
-    rest
+    let end = rest.iter().position(|b| is_white(*b)).unwrap_or(rest.len());
+    &rest[..end]
 }

@@ -1,4 +1,5 @@
 //! What the readers answer with.
+use std::fmt;
 
 /// What a token lacks. The first byte at which it goes wrong decides.
 #[derive(Clone, Copy, PartialEq, Eq, Debug)]
@@ -23,4 +24,16 @@ pub struct Flaw {
 pub struct Place {
     pub line: usize,
     pub column: usize,
+}
+
+impl fmt::Display for Place {
+    ghost use Rattle.std.specs.Prelude.{Some};
+    ghost use Rattle.text.specs.Places.{place_text};
+
+    ghost output = { λ p. Some (place_text p) };
+
+    fn fmt<W: fmt::Write>(&self, f: &mut fmt::Formatter<W>) -> fmt::Result {
+        let Place { line, column } = *self;
+        write!(f, "line {line}, column {column}")
+    }
 }

@@ -1,19 +1,13 @@
-use Rattle.text.proofs.Starts.{nth_begin, nth_later, nth_pass, nth_none}
+use Rattle.std.proofs.Common.{rules, ap, ◌∙◌, tests}
+use Rattle.std.specs.List.{slice_get}
+use Rattle.std.proofs.lemmas.Iterator.Consumers.{YieldsList-at, YieldsList-from_filter, nth_from_yields_List}
+use Rattle.std.proofs.lemmas.Iterator.Splits.{YieldsList-from_slice_split}
+use Rattle.text.specs.Bytes.{white}
+use Rattle.text.proofs.Parts.{full, tokens_are}
 use Rattle.text.proofs.names.name.Goals as goal
-use Rattle.text.proofs.names.name.Goals.{then-black+then-not-inside+else-left-eq0, else-black}
-
-pub returns-then-left-eq0 : goal.returns-then-left-eq0
-returns-then-left-eq0 c =
-    nth_begin _ _ _ _ c.loop-at-test.true c.is_white-black.ensures c.args.i _ _ c.if-black.true c.if-not-inside.true c.if-left-eq0.true c.token.ensures c.loop-at.invariant
-
-pub loop-at-preserved : goal.loop-at-preserved
-loop-at-preserved c =
-    elim c.if-black.branch [
-      | then-black+then-not-inside+else-left-eq0 w ↦
-          nth_later _ _ _ _ c.loop-at-test.true c.is_white-black.ensures _ _ _ _ w.if-black.true w.if-not-inside.true w.if-left-eq0.false w.left-is w.inside-is c.loop-at.invariant
-      | else-black w ↦
-          nth_pass _ _ _ _ c.loop-at-test.true c.is_white-black.ensures _ _ _ _ w.else-black.either w.left-is w.inside-is c.loop-at.invariant
-    ]
 
 pub returns : goal.returns
-returns c = nth_none c.args.line.now c.loop-at.at c.loop-at.left c.loop-at.inside _ c.loop-at-test.false c.loop-at.invariant
+returns c =
+    nth_from_yields_List c.nth.result _ c.args.i c.nth.ensures.ran
+    (YieldsList-from_filter _ full (YieldsList-at c.filter.ensures.source (YieldsList-from_slice_split _ white c.args.line.now c.split.ensures.rest c.split.ensures.done c.split.ensures.closure (λ x b q k. search (rules, tests)))) c.filter.ensures.closure (λ x b q k. search (rules, tests)))
+    ∙ ap (λ ts. slice_get ts c.args.i) (tokens_are c.args.line.now)

@@ -1,14 +1,14 @@
-use Rattle.std.proofs.Common.{sym, ap, ◌∙◌}
+use Rattle.std.proofs.Common.{rules, take, drop, ◌-◌, length, ap, ◌∙◌, tests}
+use Rattle.std.proofs.lemmas.Iterator.{YieldsList-from_slice}
+use Rattle.std.proofs.lemmas.Iterator.Search.{position_from_yields_List}
+use Rattle.std.proofs.lemmas.List.{take_rest, drop_min}
 use Rattle.text.specs.Bytes.{white}
 use Rattle.text.specs.Tokens.{word}
-use Rattle.text.proofs.Fronts.{passed_more, passed_stop, passed_all, rest_min}
+use Rattle.text.proofs.Parts.{before_found}
 use Rattle.text.proofs.places.token.Goals as goal
 
-pub returns-then-is_white : goal.returns-then-is_white
-returns-then-is_white c = passed_stop white _ _ c.loop-i-test.true (sym c.if-is_white.ensures) c.loop-i.invariant ∙ ap word (rest_min _ _ _ c.min.ensures)
-
-pub loop-i-preserved : goal.loop-i-preserved
-loop-i-preserved c = passed_more white _ _ c.loop-i-test.true (sym c.if-is_white.ensures) c.loop-i.invariant
-
 pub returns : goal.returns
-returns c = passed_all white _ _ c.loop-i-test.false c.loop-i.invariant ∙ ap word (rest_min _ _ _ c.min.ensures)
+returns c =
+    let rest = take (length c.args.text.now - c.min.result) (drop c.min.result c.args.text.now) in
+    let found = position_from_yields_List white _ _ c.position.result c.position.ensures.ran (YieldsList-from_slice rest c.iter.ensures.rest) (λ x b q k. search (rules, tests)) in
+    before_found white rest _ _ found c.unwrap_or-end.ensures ∙ ap word (take_rest c.args.text.now c.min.result ∙ ap (λ n. drop n c.args.text.now) c.min.ensures ∙ drop_min c.args.from c.args.text.now)
