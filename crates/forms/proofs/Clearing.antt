@@ -1,8 +1,8 @@
 -- words that are all 0 are the form that spans 0 only
-use Rattle.std.proofs.Common.{◌≡◌, ℕ, zero, suc, ◌+◌, ◌-◌, ◌*◌, ◌≤◌, List, ◌∷◌, length, get_or, take, replicate, sym, refl, ap, ◌∙◌, subst, ap₂, arith}
+use Rattle.std.proofs.Common.{◌≡◌, ℕ, zero, suc, ◌+◌, ◌-◌, ◌*◌, ◌≤◌, List, ◌∷◌, length, take, replicate, sym, refl, ap, ◌∙◌, subst, ap₂, arith}
 use borrow.Rule.Slice.PartMut.{put_mid}
 use lib.Count.{count_trailing_zeros, trailing_of_zero}
-use Rattle.std.proofs.lemmas.List.{length-replicate, take-replicate, drop-replicate}
+use Rattle.std.proofs.lemmas.List.{get_or-replicate, length-replicate, take-replicate, drop-replicate}
 use Rattle.std.proofs.lemmas.Slice.{between-put_mid, take-put_mid_below, drop-put_mid}
 use Rattle.algebra.specs.Vec.{flip}
 use Rattle.algebra.specs.Form.{Slot, slot, Form, nothing, Howell, In}
@@ -12,11 +12,6 @@ use Rattle.forms.specs.Flat.{part, read, table_at, form_at}
 use Rattle.forms.specs.Clearing.{ClearedAt}
 use Rattle.forms.proofs.Reading.{row_before}
 
-zero_at : (m i : ℕ) → get_or {A = ℕ} (replicate m 0) i 0 ≡ 0
-zero_at zero i = refl
-zero_at (suc m) zero = refl
-zero_at (suc m) (suc i) = zero_at m i
-
 part_zeros : (a k m : ℕ) → a + k ≤ m → part a (a + k) (replicate m 0) ≡ replicate k 0
 part_zeros a k m h = ap (take (a + k - a)) (drop-replicate a m 0) ∙ take-replicate (a + k - a) (m - a) 0 (omega arith) ∙ ap {A = ℕ} {B = List ℕ} (λ (z : ℕ). replicate z 0) (let e : a + k - a ≡ k = omega arith in e)
 
@@ -25,7 +20,9 @@ unfolding read
 read_zeros w n zero h = refl
 read_zeros w n (suc k) h =
     ap₂ {A = Slot} {B = Form} {C = Form} (λ (x : Slot) (y : Form). x ∷ y)
-    (ap₂ {A = ℕ} {B = List ℕ} {C = Slot} slot (ap (count_trailing_zeros w) (zero_at (n * n) (k * n + k)) ∙ trailing_of_zero w) (ap flip (part_zeros (k * n) k (n * n) (let b = row_before n k n h in omega arith)) ∙ flip_zero k))
+    (let b = row_before n k n h in
+    ap₂ {A = ℕ} {B = List ℕ} {C = Slot} slot (ap (count_trailing_zeros w) (get_or-replicate (n * n) (k * n + k) 0 0 (omega arith)) ∙ trailing_of_zero w)
+    (ap flip (part_zeros (k * n) k (n * n) (omega arith)) ∙ flip_zero k))
     (read_zeros w n k (omega arith))
 
 pub cleared_at : (w n at end : ℕ) (s t : List ℕ) → end ≡ at + n * n → end ≤ length s → t ≡ replicate (end - at) 0 → ClearedAt w n at s (put_mid at (end - at) s t)

@@ -1,7 +1,8 @@
 -- forms read from tables: what equal words give, and a form cut at a place
-use Rattle.std.proofs.Common.{◌≡◌, ℕ, zero, suc, ◌+◌, ◌-◌, ◌*◌, ◌^◌, ◌<◌, ◌≤◌, ◌≢◌, List, [], ◌∷◌, ◌++◌, length, get_or, drop, sym, refl, ap, ◌∙◌, ap₂, inl, inr, add-suc, mul-le-mul_right, suc-add, zero-add, arith, pow_pos, rules}
+use Rattle.std.proofs.Common.{◌≡◌, ℕ, zero, suc, ◌+◌, ◌-◌, ◌*◌, ◌^◌, ◌<◌, ◌≤◌, ◌≢◌, List, [], ◌∷◌, ◌++◌, length, get_or, sym, refl, ap, ◌∙◌, ap₂, inl, inr, add-suc, mul-le-mul_right, suc-add, zero-add, arith, pow_pos, rules}
 use lib.Count.{count_trailing_zeros, trailing_le}
-use Rattle.std.proofs.lemmas.List.{places, ext_get_or, get_or-take, get_or-drop, get_or_past}
+use Rattle.std.proofs.lemmas.List.{places, ext_get_or, get_or_past}
+use Rattle.std.proofs.lemmas.List.Edits.{get_or-between}
 use Rattle.std.proofs.lemmas.Bool.{cases_lt, cases_eq}
 use Rattle.algebra.specs.Vec.{flip}
 use Rattle.algebra.specs.Span.{Fit}
@@ -17,20 +18,17 @@ row_before n p q h = omega (arith, mul-le-mul_right n h)
 pub row_in : (n k : ℕ) (ws : List ℕ) → n * n ≤ length ws → k < n → RowIn n k ws
 row_in n k ws room h = omega (arith, row_before n k n h)
 
-get_or_part : (a b : ℕ) (t : List ℕ) (i : ℕ) → i < b - a → get_or (part a b t) i 0 ≡ get_or t (a + i) 0
-get_or_part a b t i h = get_or-take (b - a) (drop a t) i 0 h ∙ get_or-drop a t i 0
-
 pub part_same : (a b : ℕ) (s t : List ℕ) → length s ≡ length t → ((j : ℕ) → a ≤ j → j < b → get_or s j 0 ≡ get_or t j 0) → part a b s ≡ part a b t
 part_same a b s t e h = ext_get_or 0 (part a b s) (part a b t) (search (rules, places)) word
   where
     word : (i : ℕ) → i < length (part a b s) → get_or (part a b s) i 0 ≡ get_or (part a b t) i 0
     word i l =
         let k : length (part a b s) ≤ b - a = search (rules, places) in
-        get_or_part a b s i (omega arith) ∙ h (a + i) (omega arith) (omega arith) ∙ sym (get_or_part a b t i (omega arith))
+        get_or-between s a b i 0 (omega arith) ∙ h (a + i) (omega arith) (omega arith) ∙ sym (get_or-between t a b i 0 (omega arith))
 
 -- a row that is as it was has its slot as it was
 pub row_word : (n q i : ℕ) (s t : List ℕ) → i < n → row_at n q s ≡ row_at n q t → word_at n q i s ≡ word_at n q i t
-row_word n q i s t h e = sym (get_or_part (q * n) (q * n + n) s i (omega arith)) ∙ ap (λ (z : List ℕ). get_or z i 0) e ∙ get_or_part (q * n) (q * n + n) t i (omega arith)
+row_word n q i s t h e = sym (get_or-between s (q * n) (q * n + n) i 0 (omega arith)) ∙ ap (λ (z : List ℕ). get_or z i 0) e ∙ get_or-between t (q * n) (q * n + n) i 0 (omega arith)
 
 pub exponent_same : (w n q : ℕ) (s t : List ℕ) → q < n → row_at n q s ≡ row_at n q t → exponent_at w n q s ≡ exponent_at w n q t
 exponent_same w n q s t h e = ap (count_trailing_zeros w) (row_word n q q s t h e)
@@ -96,7 +94,7 @@ fit_words w n v e small = record { sized = e; small = below_all (2 ^ w) v small 
 
 small_part : (w a b : ℕ) (t : List ℕ) → ((i : ℕ) → get_or t i 0 < 2 ^ w) → (i : ℕ) → get_or (part a b t) i 0 < 2 ^ w
 small_part w a b t small i = elim (cases_lt i (b - a)) [
-  | inl l ↦ rw (get_or_part a b t i l) (small (a + i))
+  | inl l ↦ rw (get_or-between t a b i 0 (omega arith)) (small (a + i))
   | inr l ↦ rw (get_or_past (part a b t) i 0 (let e : length (part a b t) ≤ b - a = search (rules, places) in omega arith)) (pow_pos w)
 ]
 

@@ -1,6 +1,5 @@
 -- the laws of a table, as they are written, are those that the model tells
 use Rattle.std.proofs.Common.{◌≡◌, ℕ, zero, suc, ◌+◌, ◌-◌, ◌*◌, ◌^◌, ◌<◌, ◌≤◌, List, [], ◌∷◌, ◌++◌, length, take, drop, set, replicate, sym, refl, ap, ◌∙◌, subst, ap₂, add-one, arith, rules}
-use native.Mathlib.Nat.{sub-zero}
 use borrow.Rule.Slice.PartMut.{put_mid}
 use Rattle.std.proofs.lemmas.List.{places, length-set, take_at, append-nil, append_assoc, length-append, length-replicate, take-set, take-set-le, take_more_set, take_all, drop-drop}
 use Rattle.std.proofs.lemmas.Slice.{take-put_mid, drop-put_mid}
@@ -99,7 +98,7 @@ module _ (w n : ℕ) (ws : List ℕ) where
     pub words : take k c ≡ law_to w n ws q (k - suc q)
 
   -- zeros before the lead, and the lead
-  pub law_start : (q y : ℕ) (c z : List ℕ) → q < n → length c ≡ n → z ≡ replicate (q - 0) 0 → y ≡ 2 ^ (w - exponent_at w n q ws) → Law q (q + 1) (set (put_mid 0 (q - 0) c z) q y)
+  pub law_start : (q y : ℕ) (c z : List ℕ) → q < n → length c ≡ n → z ≡ replicate q 0 → y ≡ 2 ^ (w - exponent_at w n q ws) → Law q (q + 1) (set (z ++ drop q c) q y)
   unfolding law_to
   law_start q y c z h len is e = record {
     sized = length-set d q y ∙ len_d;
@@ -112,16 +111,13 @@ module _ (w n : ℕ) (ws : List ℕ) where
   }
     where
       d : List ℕ
-      d = put_mid 0 (q - 0) c z
-
-      z_is : z ≡ replicate q 0
-      z_is = is ∙ ap {A = ℕ} {B = List ℕ} (λ (x : ℕ). replicate x 0) (sub-zero q)
+      d = z ++ drop q c
 
       len_d : length d ≡ n
-      len_d = let l = ap length z_is ∙ length-replicate {A = ℕ} q 0 in (search (rules, places))
+      len_d = let l = ap length is ∙ length-replicate {A = ℕ} q 0 in (search (rules, places))
 
       front : take q d ≡ replicate q 0
-      front = take_at z (drop (q - 0) c) q (ap length z_is ∙ length-replicate q 0) ∙ z_is
+      front = take_at z (drop q c) q (ap length is ∙ length-replicate q 0) ∙ is
 
   pub law_step : (q k : ℕ) (c d : List ℕ) → q < k → k < n → d ≡ set c k (extra w (slot_at w n k ws) (take k c)) → Law q k c → Law q (k + 1) d
   law_step q k c d h l is inv = record {

@@ -1,5 +1,5 @@
 -- a row inserted at one place of a table
-use Rattle.std.proofs.Common.{◌≡◌, ℕ, zero, suc, ◌+◌, ◌-◌, ◌*◌, ◌/◌, ◌%◌, ◌^◌, ◌<◌, ◌≤◌, true, false, ◌≢◌, ◌⊎◌, List, [], ◌∷◌, length, get_or, take, drop, set, sym, refl, ap, ◌∙◌, subst, ap₂, inl, inr, le_of_suc-le-suc, mod-eq_of_lt, zero-add, arith, rules}
+use Rattle.std.proofs.Common.{◌≡◌, ℕ, zero, suc, ◌+◌, ◌-◌, ◌*◌, ◌/◌, ◌%◌, ◌^◌, ◌<◌, ◌≤◌, true, false, ◌≢◌, ◌⊎◌, List, [], ◌∷◌, ◌++◌, length, get_or, take, drop, set, sym, refl, ap, ◌∙◌, subst, ap₂, inl, inr, le_of_suc-le-suc, mod-eq_of_lt, zero-add, arith, rules}
 use native.Mathlib.Nat.{zero-div, sub-zero}
 use borrow.Rule.Slice.PartMut.{put_mid}
 use lib.Count.{count_trailing_zeros, trailing_le, trailing_of_zero}
@@ -62,10 +62,6 @@ module _ (from pivot y : ℕ) (u s : List ℕ) (h : from ≤ pivot) (room : pivo
 part_set : (from pivot y : ℕ) (s : List ℕ) → from ≤ pivot → part from pivot (set s pivot y) ≡ part from pivot s
 part_set from pivot y s h = between_is (set s pivot y) from pivot ∙ ap (drop from) (take-set s pivot y) ∙ sym (between_is s from pivot)
 
--- the front of a row written
-take_put : (k : ℕ) (v z : List ℕ) → length z ≡ k → take k (put_mid 0 (k - 0) v z) ≡ z
-take_put k v z e = take_at z (drop (k - 0) v) k e
-
 module _ (w n k : ℕ) (s v : List ℕ) (room : k * n + n ≤ length s) (sized : length v ≡ n) (place : k < n) where
   len_row : length (take k v) ≡ k
   len_row = length-take-le k v (omega arith)
@@ -77,12 +73,12 @@ module _ (w n k : ℕ) (s v : List ℕ) (room : k * n + n ≤ length s) (sized :
   pub turned_keep : (q : ℕ) (z : List ℕ)
       → exponent_at w n k s ≤ count_trailing_zeros w (get_or v k 0)
       → q ≡ (neg w * (get_or v k 0 / 2 ^ exponent_at w n k s)) % 2 ^ w
-      → z ≡ plus w (take (k - 0) v) (times w q (entries_at n k s)) → Turned w n k s s v (put_mid 0 (k - 0) v z) false
+      → z ≡ plus w (take k v) (times w q (entries_at n k s)) → Turned w n k s s v (z ++ drop k v) false
   turned_keep q z le qis zis = record {
     step = λ f.
         ap (insert w (slot_at w n k s ∷ f)) (flip_take k v (omega arith))
         ∙ insert_big w (exponent_at w n k s) (get_or v k 0) (flip (entries_at n k s)) (flip (take k v)) f le
-        ∙ ap (λ (a : List ℕ). slot_at w n k s ∷ insert w f a) (flip_less w quotient (take k v) (entries_at n k s) (len_row ∙ sym len_entries) ∙ ap flip (sym z_is ∙ sym (take_put k v z len_z)));
+        ∙ ap (λ (a : List ℕ). slot_at w n k s ∷ insert w f a) (flip_less w quotient (take k v) (entries_at n k s) (len_row ∙ sym len_entries) ∙ ap flip (sym z_is ∙ sym (take_at z (drop k v) k len_z)));
     kept = λ q ne. refl;
     tail = λ i l b. refl;
     falls = λ h. absurd (let a : ◌≡◌ {A = ℕ} 0 1 = cc in omega arith);
@@ -96,7 +92,7 @@ module _ (w n k : ℕ) (s v : List ℕ) (room : k * n + n ≤ length s) (sized :
       z_is : z ≡ less w (take k v) quotient (entries_at n k s)
       z_is =
           zis
-          ∙ ap₂ (λ (a b : List ℕ). plus w a b) (ap (λ (a : ℕ). take a v) (sub-zero k)) (ap (λ (a : ℕ). times w a (entries_at n k s)) qis ∙ times_mod w (neg w * quotient) (entries_at n k s))
+          ∙ ap (plus w (take k v)) (ap (λ (a : ℕ). times w a (entries_at n k s)) qis ∙ times_mod w (neg w * quotient) (entries_at n k s))
 
       len_z : length z ≡ k
       len_z = ap length z_is ∙ length_plus w (take k v) _ (len_row ∙ sym len_entries ∙ sym (length_times w (neg w * quotient) (entries_at n k s))) ∙ len_row
@@ -107,16 +103,16 @@ module _ (w n k : ℕ) (s v : List ℕ) (room : k * n + n ≤ length s) (sized :
       → y ≡ 2 ^ count_trailing_zeros w (get_or v k 0) % 2 ^ w
       → c ≡ inverse w (get_or v k 0 / 2 ^ count_trailing_zeros w (get_or v k 0))
       → q ≡ (neg w * (2 ^ (exponent_at w n k s - count_trailing_zeros w (get_or v k 0)) % 2 ^ w)) % 2 ^ w
-      → u ≡ times w c (take (k - 0) v)
-      → z ≡ plus w (entries_at n k (set s (k * n + k) y)) (times w q (times w c (take (k - 0) v)))
-      → Turned w n k s (written (k * n) (k * n + k) y u s) v (put_mid 0 (k - 0) v z) true
+      → u ≡ times w c (take k v)
+      → z ≡ plus w (entries_at n k (set s (k * n + k) y)) (times w q (times w c (take k v)))
+      → Turned w n k s (written (k * n) (k * n + k) y u s) v (z ++ drop k v) true
   turned_new y c q u z lt yis cis qis uis zis = record {
     step = λ f.
         ap (insert w (slot_at w n k s ∷ f)) (flip_take k v (omega arith))
         ∙ insert_new w e (get_or v k 0) (flip (entries_at n k s)) (flip (take k v)) f lt
         ∙ ap (λ (a : List ℕ). slot i a ∷ insert w f (less w (flip (entries_at n k s)) (2 ^ (e - i)) a)) new_is
         ∙ ap₂ {A = Slot} {B = Form} {C = Form} (λ (a : Slot) (b : Form). a ∷ b) slot_is
-        (ap (insert w f) (flip_less w (2 ^ (e - i)) (entries_at n k s) u (len_entries ∙ sym len_u) ∙ ap flip (sym z_is ∙ sym (take_put k v z len_z))));
+        (ap (insert w f) (flip_less w (2 ^ (e - i)) (entries_at n k s) u (len_entries ∙ sym len_u) ∙ ap flip (sym z_is ∙ sym (take_at z (drop k v) k len_z))));
     kept = λ q ne. part_same (q * n) (q * n + n) t s len_t (λ j a b. other j (apart q ne j a b));
     tail = λ j l b. other (k * n + j) (inr (omega arith));
     falls = λ h. omega (arith, zeros);
@@ -134,7 +130,7 @@ module _ (w n k : ℕ) (s v : List ℕ) (room : k * n + n ≤ length s) (sized :
       t = written (k * n) (k * n + k) y u s
 
       u_is : u ≡ times w (inverse w (get_or v k 0 / 2 ^ i)) (take k v)
-      u_is = uis ∙ ap₂ (λ (a : ℕ) (b : List ℕ). times w a b) cis (ap (λ (a : ℕ). take a v) (sub-zero k))
+      u_is = uis ∙ ap (λ (a : ℕ). times w a (take k v)) cis
 
       new_is : times w (inverse w (get_or v k 0 / 2 ^ i)) (flip (take k v)) ≡ flip u
       new_is = sym (flip_times w (inverse w (get_or v k 0 / 2 ^ i)) (take k v)) ∙ ap flip (sym u_is)

@@ -4,14 +4,8 @@
 pub const PLACES: usize = 17;
 
 /// A row by value.
-#[derive(Clone, Copy)]
+// An array of 17 in a struct is the project's form for it (docs/DECISIONS.md); a shorter row has words that do not count.
+#[derive(Clone, Copy, Debug, PartialEq, Eq)]
 pub struct Row {
     pub words: [u32; PLACES],
-}
-
-/// Which rows of a table changed: those of the first `count` places, which go down.
-#[derive(Clone, Copy)]
-pub struct Changes {
-    pub count: usize,
-    pub places: [usize; PLACES],
 }

@@ -4,13 +4,16 @@ ghost use Rattle.algebra.specs.Vec.{plus, times, dot as dot_of};
 
 use crate::words::mul_add;
 
+// The index stands for the second row: of a `&mut` row that is zipped, a proof knows the length afterwards and not the words.
+
 // v becomes v + k t.
+#[tactic(auto, using(crate::proofs::RowSums::added_all))]
 pub(crate) fn add_multiple(v: &mut [u32], k: u32, t: &[u32])
     requires { length v.old ≡ length t.now }
     ensures { v.new ≡ plus 32 v.old (times 32 k t.now) }
 {
-    for i in 0..v.len() {
-        v[i] = mul_add(v[i], k, t[i]);
+    for (i, x) in v.iter_mut().enumerate() {
+        *x = mul_add(*x, k, t[i]);
     }
 }
 
@@ -20,9 +23,9 @@ pub(crate) fn exchange(v: &mut [u32], t: &mut [u32], unit: u32, k: u32)
     ensures new { t.new ≡ times 32 unit v.old }
     ensures left { v.new ≡ plus 32 t.old (times 32 k (times 32 unit v.old)) }
 {
-    for i in 0..v.len() {
-        let new = mul_add(0, unit, v[i]);
-        v[i] = mul_add(t[i], k, new);
+    for (i, x) in v.iter_mut().enumerate() {
+        let new = mul_add(0, unit, *x);
+        *x = mul_add(t[i], k, new);
         t[i] = new;
     }
 }
@@ -32,9 +35,5 @@ pub(crate) fn dot(c: &[u32], x: &[u32]) -> u32
     requires { length c.now ≡ length x.now }
     ensures { result ≡ dot_of 32 c.now x.now }
 {
-    let mut sum = 0;
-    for i in 0..c.len() {
-        sum = mul_add(sum, c[i], x[i]);
-    }
-    sum
+    c.iter().zip(x).fold(0, |sum, (a, b)| mul_add(sum, *a, *b))
 }
