@@ -1,4 +1,1 @@
-pub mod Terms
 pub mod Placed
-pub mod Texts
-pub mod Parts

@@ -1,21 +1,20 @@
 -- How the steps of a program are written: for each point its name, and below it the steps that start there.
-use Rattle.std.specs.Prelude.{◌≡◌, ℕ, zero, suc, Bool, true, false, cond, List, [], ◌∷◌, ◌++◌, codes, Option, ◌==◌}
+use Rattle.std.specs.Prelude.{ℕ, zero, suc, Bool, true, false, cond, List, [], ◌∷◌, ◌++◌, codes, Option, ◌==◌}
 use Rattle.programs.specs.Programs.{Action, set, any, skip, Step}
 use Rattle.listing.specs.Names.{with_name}
 use Rattle.listing.specs.Sums.{with_sum}
 
+-- the word that becomes something
+abbrev pub with_target : Option (List ℕ) → ℕ → List ℕ → List ℕ
+with_target words x out = with_name words 120 x (out ++ codes " : ") ++ codes " := "
+
 abbrev pub with_action : Option (List ℕ) → Action → List ℕ → List ℕ
-with_action words (set x cs) out = with_sum words cs (with_name words 120 x (out ++ codes " : ") ++ codes " := ")
-with_action words (any x) out = with_name words 120 x (out ++ codes " : ") ++ codes " := ?"
+with_action words (set x cs) out = with_sum words cs (with_target words x out)
+with_action words (any x) out = with_target words x out ++ codes "?"
 with_action words skip out = out
 
 abbrev pub with_step : Option (List ℕ) → Option (List ℕ) → Step → List ℕ → List ℕ
 with_step words points s out = with_action words s.action (with_name points 112 s.to (out ++ codes "  -> ")) ++ (10 ∷ [])
-
--- a step, if it starts from the point; b says whether it does
-pub record FromSays (words points : Option (List ℕ)) (point : ℕ) (s : Step) (out out' : List ℕ) (b : Bool) : Type 0 where
-  pub test : b ≡ (s.from == point)
-  pub text : out' ≡ cond b (with_step words points s out) out
 
 -- the steps that start from a point; `first` says that none has been written
 abbrev pub with_steps : Option (List ℕ) → Option (List ℕ) → ℕ → Bool → List Step → List ℕ → List ℕ

@@ -1,5 +1,5 @@
 -- How a sum of words is written: the terms with a factor other than 0 in the order of the words, then the number.
-use Rattle.std.specs.Prelude.{ℕ, suc, ◌-◌, Bool, true, false, cond, List, [], ◌∷◌, ◌++◌, codes, decimal, Option, ◌==◌, nat_lt}
+use Rattle.std.specs.Prelude.{ℕ, suc, ◌-◌, Bool, true, false, cond, not, ◌&&◌, List, [], ◌∷◌, ◌++◌, codes, decimal, Option, ◌==◌, nat_lt}
 use Rattle.listing.specs.Names.{with_name}
 
 -- above 2 ^ 31 a factor stands for the negative number that it is modulo 2 ^ 32
@@ -12,16 +12,19 @@ size c = cond (minus c) (4294967296 - c) c
 abbrev pub sign : Bool → ℕ → List ℕ
 sign first c = cond (minus c) (cond first (codes "-") (codes " - ")) (cond first [] (codes " + "))
 
--- a factor 1 is not written
-abbrev pub with_factor : ℕ → List ℕ → List ℕ
-with_factor a out = cond (a == 1) out ((out ++ decimal a) ++ codes " ")
+-- a factor of a word, with its sign; a factor 1 is not written
+abbrev pub factor_text : Bool → ℕ → List ℕ
+factor_text first c = cond (size c == 1) (sign first c) (sign first c ++ (decimal (size c) ++ codes " "))
 
 abbrev pub with_term : Option (List ℕ) → Bool → ℕ → ℕ → List ℕ → List ℕ
-with_term names first i c out = with_name names 120 i (with_factor (size c) (out ++ sign first c))
+with_term names first i c out = with_name names 120 i (out ++ factor_text first c)
 
--- the number behind the terms: 0 is written only where there is no term
+-- the number behind the terms, with its sign: 0 is written only where there is no term
+abbrev pub number_text : Bool → ℕ → List ℕ
+number_text first c = cond (c == 0 && not first) [] (sign first c ++ decimal (size c))
+
 abbrev pub with_number : Bool → ℕ → List ℕ → List ℕ
-with_number first c out = cond (c == 0) (cond first (out ++ codes "0") out) ((out ++ sign first c) ++ decimal (size c))
+with_number first c out = out ++ number_text first c
 
 -- the factors cs are those of the words from i on
 abbrev pub with_terms : Option (List ℕ) → ℕ → Bool → ℕ → List ℕ → List ℕ → List ℕ

@@ -4,8 +4,8 @@
 
 pub mod messages;
 mod names;
-mod numbers;
 mod points;
+mod program;
 mod quotes;
 pub mod refusal;
 pub mod report;

@@ -1,49 +1,102 @@
 //! What a person is told of a refusal: where it is, and what is wrong there.
-ghost use Rattle.std.specs.Prelude.{◌≡◌, min, ◌++◌, length, OnOk, slice_index};
-ghost use Rattle.listing.specs.Messages.{with_place, with_what, with_flaw, number_at, text_of_fault, with_fault, with_wrong, with_misfit, with_cause, with_refusal};
+ghost use Rattle.std.specs.Prelude.{◌≡◌, min, length};
+ghost use Rattle.listing.specs.Messages.{number_at, refusal_text};
+ghost use Rattle.listing.specs.Shown.{message_text};
 
-use crate::numbers::push_number;
-use crate::quotes::push_quoted;
+use crate::quotes::Quoted;
 use crate::refusal::Refusal;
-use programs::step::{Fault, Wrong};
-use std::alloc::{AllocError, Global};
+use programs::step::Fault;
+use std::error::Error;
+use std::fmt;
 use text::numbers::read_numbers;
 use text::places::{place, token};
-use text::types::{Flaw, What};
+use text::types::{Place, What};
 
-// A place in the text, by line and column.
-fn push_place(heap: Global, out: &mut Vec<u8>, text: &[u8], at: usize) -> Result<(), AllocError>
-    ensures { OnOk result (out.new.items ≡ with_place text.now at out.old.items) }
-{
-    let place = place(text, at);
-    out.extend_from_slice(b"line ")?;
-    push_number(heap, out, place.line)?;
-    out.extend_from_slice(b", column ")?;
-    push_number(heap, out, place.column)?;
-    out.extend_from_slice(b": ")
+/// What is wrong with the token of a number.
+#[derive(Clone, Copy, PartialEq, Eq, Debug)]
+pub struct TokenFault<'a> {
+    pub what: What,
+    pub token: &'a [u8],
 }
 
-// What is wrong with the token of a number.
-fn push_what(out: &mut Vec<u8>, what: What, token: &[u8]) -> Result<(), AllocError>
-    ensures { OnOk result (out.new.items ≡ with_what what token.now out.old.items) }
-{
-    match what {
-        What::NoNumber => {
-            push_quoted(out, token)?;
-            out.extend_from_slice(b" is no number")?;
-            Ok(())
+/// Why numbers are no program, with the number that is wrong.
+#[derive(Clone, Copy, PartialEq, Eq, Debug)]
+pub struct ProgramFault {
+    pub fault: Fault,
+    pub number: u32,
+}
+
+/// What a person is told of a refusal.
+#[derive(Clone, Copy, PartialEq, Eq, Debug)]
+pub enum Message<'a> {
+    Memory,
+    Number(Place, TokenFault<'a>),
+    Program(Place, ProgramFault),
+    /// A line of names by its key, how many names it has, and how many it should have.
+    Names {
+        key: &'a str,
+        names: usize,
+        count: u32,
+    },
+}
+
+impl fmt::Display for TokenFault<'_> {
+    ghost use Rattle.std.specs.Prelude.{Some};
+    ghost use Rattle.listing.specs.Shown.{token_fault_text};
+
+    ghost output = { λ t. Some (token_fault_text t) };
+
+    fn fmt<W: fmt::Write>(&self, f: &mut fmt::Formatter<W>) -> fmt::Result {
+        match self.what {
+            What::NoNumber => {
+                let token = Quoted(self.token);
+                write!(f, "{token} is no number")
+            }
+            What::TooLarge => write!(f, "a number must be below 4294967296"),
+            What::TooMany => write!(f, "more numbers than any program has"),
         }
-        What::TooLarge => out.extend_from_slice(b"a number must be below 4294967296"),
-        What::TooMany => out.extend_from_slice(b"more numbers than any program has"),
     }
 }
 
-fn push_flaw(heap: Global, out: &mut Vec<u8>, text: &[u8], flaw: Flaw) -> Result<(), AllocError>
-    ensures { OnOk result (out.new.items ≡ with_flaw text.now flaw out.old.items) }
-{
-    push_place(heap, out, text, flaw.at)?;
-    push_what(out, flaw.what, token(text, flaw.at))
+impl fmt::Display for ProgramFault {
+    ghost use Rattle.std.specs.Prelude.{Some};
+    ghost use Rattle.listing.specs.Shown.{program_fault_text};
+
+    ghost output = { λ p. Some (program_fault_text p) };
+
+    fn fmt<W: fmt::Write>(&self, f: &mut fmt::Formatter<W>) -> fmt::Result {
+        let number = self.number;
+        match self.fault {
+            Fault::Ends => write!(f, "the numbers end before the program does"),
+            Fault::Words => write!(f, "a program has 1 to 16 words, not {number}"),
+            Fault::Points => write!(f, "a program has 1 to 256 points, not {number}"),
+            Fault::Steps => write!(f, "a program has at most 1024 steps, not {number}"),
+            Fault::Point => write!(f, "there is no point {number}"),
+            Fault::Kind => write!(f, "there is no kind of step {number}"),
+            Fault::Word => write!(f, "there is no word {number}"),
+            Fault::Longer => write!(f, "the program ends before the number {number}"),
+        }
+    }
 }
+
+impl fmt::Display for Message<'_> {
+    ghost use Rattle.std.specs.Prelude.{Some};
+
+    ghost output = { λ m. Some (message_text m) };
+
+    fn fmt<W: fmt::Write>(&self, f: &mut fmt::Formatter<W>) -> fmt::Result {
+        match *self {
+            Message::Memory => write!(f, "out of memory"),
+            Message::Number(place, fault) => write!(f, "{place}: {fault}"),
+            Message::Program(place, fault) => write!(f, "{place}: no program: {fault}"),
+            Message::Names { key, names, count } => {
+                write!(f, "the line '# {key}' has {names} names, not {count}")
+            }
+        }
+    }
+}
+
+impl Error for Message<'_> {}
 
 // Where number `i` of the text begins, or the text's end if it has none: with room for the numbers before it, that is where
 // the reader stops.
@@ -57,104 +110,40 @@ fn number_offset(text: &[u8], words: &mut [u32], i: usize) -> usize
     }
 }
 
-// Why numbers are no program. A text that ends with a space goes on with the number that is wrong.
-fn fault_text(fault: Fault) -> &'static [u8]
-    ensures { result.now ≡ text_of_fault fault }
-{
-    match fault {
-        Fault::Ends => b"the numbers end before the program does",
-        Fault::Words => b"a program has 1 to 16 words, not ",
-        Fault::Points => b"a program has 1 to 256 points, not ",
-        Fault::Steps => b"a program has at most 1024 steps, not ",
-        Fault::Point => b"there is no point ",
-        Fault::Kind => b"there is no kind of step ",
-        Fault::Word => b"there is no word ",
-        Fault::Longer => b"the program ends before the number ",
-    }
-}
-
-fn push_fault(heap: Global, out: &mut Vec<u8>, fault: Fault, number: u32) -> Result<(), AllocError>
-    ensures { OnOk result (out.new.items ≡ with_fault fault number out.old.items) }
-{
-    out.extend_from_slice(fault_text(fault))?;
-    if let Fault::Ends = fault {
-        return Ok(());
-    }
-    push_number(heap, out, number as usize)
-}
-
-// The number at an index, or 0.
-fn at_or_zero(words: &[u32], i: usize) -> u32
-    ensures { result ≡ slice_index words.now i }
-{
-    if i < words.len() { words[i] } else { 0 }
-}
-
-fn push_wrong(
-    heap: Global,
-    out: &mut Vec<u8>,
-    text: &[u8],
-    words: &mut [u32],
-    wrong: Wrong,
-) -> Result<(), AllocError>
-    ensures { OnOk result (out.new.items ≡ with_wrong text.now words.old wrong out.old.items) }
-{
-    let number = at_or_zero(words, wrong.at);
-    let at = number_offset(text, words, wrong.at);
-    push_place(heap, out, text, at)?;
-    out.extend_from_slice(b"no program: ")?;
-    push_fault(heap, out, wrong.fault, number)?;
-    Ok(())
-}
-
-// How many names a line of names has, and how many it should have.
-fn push_misfit(
-    heap: Global,
-    out: &mut Vec<u8>,
-    key: &[u8],
-    names: usize,
-    count: u32,
-) -> Result<(), AllocError>
-    ensures { OnOk result (out.new.items ≡ with_misfit key.now names count out.old.items) }
-{
-    out.extend_from_slice(b"the line '# ")?;
-    out.extend_from_slice(key)?;
-    out.extend_from_slice(b"' has ")?;
-    push_number(heap, out, names)?;
-    out.extend_from_slice(b" names, not ")?;
-    push_number(heap, out, count as usize)?;
-    Ok(())
-}
-
-// What is wrong with the text, and where.
-fn push_cause(
-    heap: Global,
-    out: &mut Vec<u8>,
-    text: &[u8],
-    words: &mut [u32],
-    refusal: Refusal,
-) -> Result<(), AllocError>
-    ensures { OnOk result (out.new.items ≡ with_cause text.now words.old refusal out.old.items) }
+/// What is wrong with the text, and where; `words` holds its numbers, and is written again.
+// The room for the numbers is lent at each call, so that nothing is allocated here.
+pub fn explain<'a>(text: &'a [u8], words: &mut [u32], refusal: Refusal) -> Message<'a>
+    ensures { message_text result ≡ refusal_text text.now words.old refusal }
 {
     match refusal {
-        Refusal::Memory => out.extend_from_slice(b"out of memory"),
-        Refusal::Number(flaw) => push_flaw(heap, out, text, flaw),
-        Refusal::Program(wrong) => push_wrong(heap, out, text, words, wrong),
-        Refusal::WordNames(n) => push_misfit(heap, out, b"words", n, at_or_zero(words, 0)),
-        Refusal::PointNames(n) => push_misfit(heap, out, b"points", n, at_or_zero(words, 1)),
+        Refusal::Memory => Message::Memory,
+        Refusal::Number(flaw) => Message::Number(
+            place(text, flaw.at),
+            TokenFault {
+                what: flaw.what,
+                token: token(text, flaw.at),
+            },
+        ),
+        Refusal::Program(wrong) => {
+            let number = words.get(wrong.at).copied().unwrap_or(0);
+            let at = number_offset(text, words, wrong.at);
+            Message::Program(
+                place(text, at),
+                ProgramFault {
+                    fault: wrong.fault,
+                    number,
+                },
+            )
+        }
+        Refusal::WordNames(names) => Message::Names {
+            key: "words",
+            names,
+            count: words.first().copied().unwrap_or(0),
+        },
+        Refusal::PointNames(names) => Message::Names {
+            key: "points",
+            names,
+            count: words.get(1).copied().unwrap_or(0),
+        },
     }
-}
-
-/// What is wrong with the text, and where, on a line; `words` holds its numbers, and is written again.
-pub fn push_refusal(
-    heap: Global,
-    out: &mut Vec<u8>,
-    text: &[u8],
-    words: &mut [u32],
-    refusal: Refusal,
-) -> Result<(), AllocError>
-    ensures { OnOk result (out.new.items ≡ with_refusal text.now words.old refusal out.old.items) }
-{
-    push_cause(heap, out, text, words, refusal)?;
-    out.extend_from_slice(b"\n")
 }

@@ -3,49 +3,47 @@
 
 #![tactic(auto)]
 
-use listing::messages::push_refusal;
+use anyhow::{Result, ensure};
+use listing::messages::explain;
 use listing::report::tell_steps;
 use std::io;
 use std::io::{Read, Write};
 use std::process::ExitCode;
 
-// The largest text, and as many numbers as such a text can hold: 1.5 MiB together.
+// The largest text, and as many numbers as such a text can hold: 1.5 MiB together. The reader of numbers writes into words
+// that it is lent, so that there is room for all of them beforehand.
 const TEXT_BYTES: usize = 524_288;
 
 const NUMBERS: usize = 262_144;
 
-// Says why nothing is told.
-fn refuse(rt: &HostRuntime, message: &[u8]) -> io::Result<bool> {
-    rt.stderr().write_all(message)?;
-    Ok(false)
-}
-
-// Whether a program was told; if not, why not was said.
-fn run(rt: &HostRuntime) -> io::Result<bool> {
-    let heap = rt.alloc();
-    let mut text = Vec::with_capacity(heap, TEXT_BYTES + 1)?;
+// The text on standard input: at most one byte more than a text may have, so that a longer one is noticed.
+fn read_text(rt: &HostRuntime) -> io::Result<Vec<u8>> {
+    let mut text = Vec::with_capacity(rt.alloc(), TEXT_BYTES + 1)?;
     rt.stdin()
         .take(TEXT_BYTES as u64 + 1)
         .read_to_end(&mut text)?;
-    if text.len() > TEXT_BYTES {
-        return refuse(rt, b"the text has more than 524288 bytes\n");
-    }
-    let mut words = vec![in heap; 0u32; NUMBERS]?;
-    let mut out = Vec::new(heap);
-    if let Err(refusal) = tell_steps(heap, &text, &mut words, &mut out) {
-        let mut message = Vec::new(heap);
-        push_refusal(heap, &mut message, &text, &mut words, refusal)?;
-        return refuse(rt, &message);
-    }
-    rt.stdout().write_all(&out)?;
-    Ok(true)
+    Ok(text)
 }
 
-// The status is 1 where nothing is told; what `run` has not said of it yet is said here.
+// Tells the program, or answers why not. An `anyhow::Error` keeps 120 bytes of a text, and no message has more than 88.
+fn run(rt: &HostRuntime) -> Result<()> {
+    let text = read_text(rt)?;
+    ensure!(
+        text.len() <= TEXT_BYTES,
+        "the text has more than {TEXT_BYTES} bytes"
+    );
+    // as an error of io, which is shown as `out of memory`
+    let mut words = vec![in rt.alloc(); 0u32; NUMBERS].map_err(io::Error::from)?;
+    let mut out = Vec::new(rt.alloc());
+    tell_steps(&text, &mut words, &mut out).map_err(|refusal| explain(&text, &mut words, refusal))?;
+    rt.stdout().write_all(&out)?;
+    Ok(())
+}
+
+// An error that `main` returned would be told by the runtime in its own words.
 fn main(rt: HostRuntime) -> ExitCode {
     match run(&rt) {
-        Ok(true) => ExitCode::SUCCESS,
-        Ok(false) => ExitCode::FAILURE,
+        Ok(()) => ExitCode::SUCCESS,
         Err(error) => {
             let _ = eprintln!(rt; "{error}");
             ExitCode::FAILURE

@@ -1,6 +1,5 @@
 //! Texts that hold no program, and what a person is told of them.
-use listing::messages::push_refusal;
-use listing::refusal::Refusal;
+use listing::messages::explain;
 use listing::report::tell_steps;
 use std::test::Fail;
 
@@ -71,11 +70,10 @@ fn messages(rt: HostRuntime) -> Result<(), Fail> {
     for (text, message) in cases {
         let mut words = [0; 16];
         let mut out = Vec::new(heap);
-        let Err(refusal) = tell_steps(heap, text, &mut words, &mut out) else {
-            return Err(Fail::new("told"));
-        };
-        push_refusal(heap, &mut out, text, &mut words, refusal)?;
-        assert_eq!(rt; out.as_slice(), message);
+        let refusal = tell_steps(text, &mut words, &mut out).err().ok_or("told")?;
+        assert!(rt; out.is_empty());
+        let told = explain(text, &mut words, refusal);
+        assert_eq!(rt; format!(in heap; "{told}\n")?.as_bytes(), message);
     }
     Ok(())
 }

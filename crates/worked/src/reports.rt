@@ -24,7 +24,7 @@ fn steps(rt: HostRuntime) {
     for (text, told) in cases {
         let mut words = [0; 16];
         let mut out = Vec::new(heap);
-        assert!(rt; tell_steps(heap, text, &mut words, &mut out).is_ok());
+        assert!(rt; tell_steps(text, &mut words, &mut out).is_ok());
         assert_eq!(rt; out.as_slice(), told);
     }
 }
@@ -40,7 +40,7 @@ fn names_that_do_not_fit(rt: HostRuntime) {
     for text in texts {
         let mut words = [0; 16];
         let mut out = Vec::new(heap);
-        assert!(rt; tell_steps(heap, text, &mut words, &mut out).is_err());
+        assert!(rt; tell_steps(text, &mut words, &mut out).is_err());
         assert!(rt; out.is_empty());
     }
 }
