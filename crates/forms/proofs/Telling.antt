@@ -1,7 +1,7 @@
 -- the laws of a table, as they are written, are those that the model tells
 use Rattle.std.proofs.Common.{◌≡◌, ℕ, zero, suc, ◌+◌, ◌-◌, ◌*◌, ◌^◌, ◌<◌, ◌≤◌, List, [], ◌∷◌, ◌++◌, length, take, drop, set, replicate, sym, refl, ap, ◌∙◌, subst, ap₂, add-one, arith, rules}
 use borrow.Rule.Slice.PartMut.{put_mid}
-use Rattle.std.proofs.lemmas.List.{places, length-set, take_at, append-nil, append_assoc, length-append, length-replicate, take-set, take-set-le, take_more_set, take_all, drop-drop}
+use Rattle.std.proofs.lemmas.List.{places, length-set, take_at, append-nil, append_assoc, length-append, length-replicate, take-set, take-set-le, take_more_set, drop-drop}
 use Rattle.std.proofs.lemmas.Slice.{take-put_mid, drop-put_mid}
 use Rattle.algebra.specs.Vec.{snoc}
 use Rattle.algebra.specs.Tell.{extra, extend, final, tell}
@@ -130,9 +130,6 @@ module _ (w n : ℕ) (ws : List ℕ) where
         ∙ ap (λ (x : List ℕ). snoc x (extra w (slot_at w n k ws) x)) inv.words
         ∙ law_more q k h ∙ ap (law_to w n ws q) (let e : k - q ≡ k + 1 - suc q = omega arith in e);
   }
-
-  pub law_end : (q k : ℕ) (c : List ℕ) → k ≡ n → Law q k c → c ≡ law_to w n ws q (n - 1 - q)
-  law_end q k c e inv = sym (take_all k c (omega (arith, inv.sized))) ∙ inv.words ∙ ap (law_to w n ws q) (let z : k - suc q ≡ n - 1 - q = omega arith in z)
 
 -- rows written one behind the other
 flat_push : (rs : List (List ℕ)) (r : List ℕ) → flat (rs ++ (r ∷ [])) ≡ flat rs ++ r
