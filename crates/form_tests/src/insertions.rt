@@ -88,8 +88,10 @@ fn rows_by_value(rt: HostRuntime) -> Result<(), Fail> {
     words[0] = 1;
     words[16] = 4;
     let row = Row { words };
-    let changed = insert_row(&mut work[..], 30, 17, row).ok_or("refused")?;
-    assert_eq!(rt; changed.as_slice(), [16, 0].as_slice());
+    let changes = insert_row(&mut work[..], 30, 17, row).ok_or("refused")?;
+    assert_eq!(rt; changes.count, 2);
+    assert_eq!(rt; changes.places[0], 16);
+    assert_eq!(rt; changes.places[1], 0);
     // 4 at the last place and 1 at the number's; 2^30 times that leaves 2^30
     assert_eq!(rt; work[30 + 16 * 17 + 16], 4);
     assert_eq!(rt; work[30 + 16 * 17], 1);

@@ -1,7 +1,7 @@
 -- what an insertion means, and a table as a part of larger words
-use Rattle.std.proofs.Common.{◌≡◌, ℕ, ◌+◌, ◌-◌, ◌*◌, ◌^◌, ◌<◌, ◌≤◌, ◌↔◌, List, ◌++◌, length, get_or, take, drop, replicate, sym, ap, ◌∙◌, subst, ap₂, arith, rules}
+use Rattle.std.proofs.Common.{◌≡◌, ℕ, ◌+◌, ◌-◌, ◌*◌, ◌^◌, ◌<◌, ◌≤◌, ◌↔◌, List, length, get_or, sym, ap, ◌∙◌, subst, arith, rules}
 use borrow.Rule.Slice.PartMut.{put_mid}
-use Rattle.std.proofs.lemmas.List.{places, ext_get_or, get_or-drop, get_or-replicate, length-drop, length-replicate, length-take-le, take-append-drop}
+use Rattle.std.proofs.lemmas.List.{places}
 use Rattle.std.proofs.lemmas.Slice.{between-put_mid, take-put_mid_below, drop-put_mid}
 use Rattle.algebra.specs.Vec.{less, flip}
 use Rattle.algebra.specs.Span.{Fit}
@@ -76,32 +76,3 @@ pub inserted_part : (w n at end : ℕ) (s t v os ps : List ℕ) (count : ℕ) �
 inserted_part w n at end s t v os ps count is room list len-v len_t small-s small-v g =
     subst (λ (z : ℕ). InsertedAt w n at s (put_mid at (z - at) s t) v os ps count) (sym is)
     (inserted_at w n at s t v os ps count (omega arith) list len-v (omega arith) small-s small-v (subst (λ (z : ℕ). Inserted w n (part at z s) v t os ps count) is g))
-
--- the places told by value: those of the list lent, cut at their number, and behind them the zeros that it held
-pub told_by_value : (w n at m : ℕ) (s t v os ps ys : List ℕ) (count : ℕ) → length v ≡ n → os ≡ replicate m 0 → length ps ≡ m → ys ≡ take count ps
-    → InsertedAt w (length v) at s t v os ps count → InsertedAt w n at s t v (replicate m 0) (ys ++ replicate (m - length ys) 0) (length ys)
-told_by_value w n at m s t v os ps ys count len-v zeros len-ps is h =
-    subst (λ (z : ℕ). InsertedAt w n at s t v (replicate m 0) (ys ++ replicate (m - z) 0) z) (sym many)
-    (subst (λ (z : List ℕ). InsertedAt w n at s t v (replicate m 0) z count) (sym all) g)
-  where
-    g : InsertedAt w n at s t v (replicate m 0) ps count
-    g = subst (λ (z : List ℕ). InsertedAt w n at s t v z ps count) zeros (subst (λ (z : ℕ). InsertedAt w z at s t v os ps count) len-v h)
-
-    fits : count ≤ m
-    fits = omega (arith, g.here.changed.few, g.room.1, length-replicate {A = ℕ} m 0)
-
-    many : length ys ≡ count
-    many = ap length is ∙ length-take-le count ps (omega (arith, fits))
-
-    rest : drop count ps ≡ replicate (m - count) 0
-    rest =
-        ext_get_or 0 (drop count ps) (replicate (m - count) 0) (omega (arith, length-drop count ps, length-replicate {A = ℕ} (m - count) 0))
-        (λ i b.
-        let c : i < m - count = omega (arith, length-drop count ps) in
-        get_or-drop count ps i 0
-        ∙ g.here.changed.behind (count + i) (omega arith)
-        ∙ get_or-replicate m (count + i) 0 0 (omega (arith, fits))
-        ∙ sym (get_or-replicate (m - count) i 0 0 c))
-
-    all : ys ++ replicate (m - count) 0 ≡ ps
-    all = ap₂ {A = List ℕ} {B = List ℕ} {C = List ℕ} (λ (x y : List ℕ). x ++ y) is (sym rest) ∙ take-append-drop count ps

@@ -1,9 +1,7 @@
 -- sums of rows, place by place as a loop makes them, and as lists
-use Rattle.std.proofs.Common.{◌≡◌, ℕ, zero, suc, ◌+◌, ◌*◌, ◌%◌, ◌^◌, ◌<◌, ◌≤◌, List, [], ◌∷◌, length, get_or, take, drop, replicate, sym, refl, ap, ◌∙◌, le_of_suc-le-suc, arith, mod-eq_of_lt, pow_pos}
-use Rattle.std.proofs.Math.Nat.{mod-lt}
-use Rattle.std.specs.List.{fold, zip}
+use Rattle.std.proofs.Common.{◌≡◌, ℕ, zero, suc, ◌+◌, ◌*◌, ◌%◌, ◌^◌, ◌<◌, ◌≤◌, List, [], ◌∷◌, length, get_or, take, drop, replicate, sym, refl, ap, ◌∙◌, le_of_suc-le-suc, add-one, arith}
 use native.Mathlib.Nat.{suc_inj, zero-mod, add-mod-mod}
-use Rattle.std.proofs.lemmas.List.{ext_get_or, get_or_past}
+use Rattle.std.proofs.lemmas.List.{ext_get_or, get_or_past, take_all}
 use Rattle.algebra.specs.Vec.{plus, times, dot}
 use Rattle.algebra.proofs.Modular.{mods}
 use Rattle.algebra.proofs.Vec.{length_plus, length_times, dot_mod}
@@ -63,17 +61,21 @@ module _ (w n c k : ℕ) (v t u s : List ℕ) (e : length v ≡ length t) (h : l
         back = λ i b. get_or_past u i 0 (omega (arith, x.len_u)) ∙ sym (get_or_past t i 0 (omega arith));
       })
 
--- the sum of products, summed from the first place on
-fold_from : (w s : ℕ) (c x : List ℕ) → s < 2 ^ w → fold (λ (a : ℕ) (p : ℕ × ℕ). (a + p.0 * p.1) % 2 ^ w) s (zip c x) ≡ (s + dot w c x) % 2 ^ w
-fold_from w s [] x h = sym (ap (λ (z : ℕ). z % 2 ^ w) (omega arith) ∙ mod-eq_of_lt h)
-fold_from w s (a ∷ c) [] h = sym (ap (λ (z : ℕ). z % 2 ^ w) (omega arith) ∙ mod-eq_of_lt h)
-fold_from w s (a ∷ c) (b ∷ x) h = fold_from w ((s + a * b) % 2 ^ w) c x (mod-lt (s + a * b) (pow_pos w)) ∙ turn s (a * b) (dot w c x)
+-- the sum of products, one place more
+dot_suc : (w i : ℕ) (c x : List ℕ) → i < length c → i < length x → dot w (take (suc i) c) (take (suc i) x) ≡ (dot w (take i c) (take i x) + get_or c i 0 * get_or x i 0) % 2 ^ w
+dot_suc w i [] x h g = absurd (omega arith)
+dot_suc w i (a ∷ c) [] h g = absurd (omega arith)
+dot_suc w zero (a ∷ c) (b ∷ x) h g = ap (λ (z : ℕ). z % 2 ^ w) (omega arith)
+dot_suc w (suc i) (a ∷ c) (b ∷ x) h g = ap (λ (z : ℕ). (a * b + z) % 2 ^ w) (dot_suc w i c x (le_of_suc-le-suc h) (le_of_suc-le-suc g)) ∙ turn (a * b) (dot w (take i c) (take i x)) (get_or c i 0 * get_or x i 0)
   where
-    turn : (p q r : ℕ) → ((p + q) % 2 ^ w + r) % 2 ^ w ≡ (p + (q + r) % 2 ^ w) % 2 ^ w
+    turn : (p q r : ℕ) → (p + (q + r) % 2 ^ w) % 2 ^ w ≡ ((p + q) % 2 ^ w + r) % 2 ^ w
     turn p q r = simp mods (ap (λ (z : ℕ). z % 2 ^ w) (omega arith))
 
-pub fold_dot : (w : ℕ) (c x : List ℕ) → fold (λ (a : ℕ) (p : ℕ × ℕ). (a + p.0 * p.1) % 2 ^ w) 0 (zip c x) ≡ dot w c x
-fold_dot w c x = fold_from w 0 c x (pow_pos w) ∙ ap (λ (z : ℕ). z % 2 ^ w) (omega arith) ∙ dot_mod w c x
+pub dot_more : (w i : ℕ) (c x : List ℕ) → i < length c → i < length x → dot w (take (i + 1) c) (take (i + 1) x) ≡ (dot w (take i c) (take i x) + get_or c i 0 * get_or x i 0) % 2 ^ w
+dot_more w i c x h g = rw add-one (dot_suc w i c x h g)
+
+pub dot_all : (w n : ℕ) (c x : List ℕ) → length c ≡ length x → length c ≤ n → dot w (take n c) (take n x) ≡ dot w c x
+dot_all w n c x e h = rw (take_all n c h, take_all n x (omega arith))
 
 -- zeros before a place of one add nothing
 pub dot_drop : (w q : ℕ) (c x : List ℕ) → q ≤ length x → take q c ≡ replicate q 0 → dot w (drop q c) (drop q x) ≡ dot w c x

@@ -1,11 +1,11 @@
 -- A row inserted into a table, place by place, the last place first.
-use Rattle.std.specs.Prelude.{◌≡◌, ℕ, suc, ◌+◌, ◌-◌, ◌*◌, ◌^◌, ◌<◌, ◌≤◌, Bool, true, false, ◌≢◌, ◌↔◌, List, ◌∷◌, ◌++◌, length, take, drop, replicate, Some, None, Option, slice_index}
+use Rattle.std.specs.Prelude.{◌≡◌, ℕ, suc, ◌+◌, ◌*◌, ◌^◌, ◌<◌, ◌≤◌, Bool, true, false, ◌≢◌, ◌↔◌, List, ◌∷◌, length, take, drop, replicate, Some, None, Option, slice_index}
 use Rattle.algebra.specs.Vec.{less, flip}
 use Rattle.algebra.specs.Span.{Fit}
 use Rattle.algebra.specs.Form.{Form, insert, weight}
 use Rattle.algebra.specs.Theorems.{Inserting}
 use Rattle.forms.specs.declared.row.Row.{Row}
-use Rattle.arrayvec.specs.ArrayVec.{ArrayVec, array_vec_len}
+use Rattle.forms.specs.declared.row.Changes.{Changes}
 use Rattle.forms.specs.Flat.{row_at, word_at, pivot_at, exponent_at, slot_at, read, table_at}
 use Rattle.forms.specs.Meaning.{Spans, HowellAt}
 
@@ -62,11 +62,7 @@ abbrev pub InsertPost : ℕ → ℕ → List ℕ → List ℕ → List ℕ → L
 InsertPost w at s t v v' os ps None = (at + length v * length v ≤ length s → length v ≤ length os → ⊥) × (t ≡ s) × (v' ≡ v) × (ps ≡ os)
 InsertPost w at s t v v' os ps (Some count) = InsertedAt w (length v) at s t v os ps count
 
--- the places that are told by value, as a list lent for 17 of them, all 0 before, then holds them
-abbrev pub told_places : ArrayVec ℕ → List ℕ
-told_places c = c.items ++ replicate (17 - array_vec_len c) 0
-
 -- the promise of `insert_row`
-abbrev pub InsertRowPost : ℕ → ℕ → List ℕ → List ℕ → Row → Option (ArrayVec ℕ) → Type 0
+abbrev pub InsertRowPost : ℕ → ℕ → List ℕ → List ℕ → Row → Option Changes → Type 0
 InsertRowPost at n s t row None = (n ≤ 17 → at + n * n ≤ length s → ⊥) × (t ≡ s)
-InsertRowPost at n s t row (Some c) = (n ≤ 17) × InsertedAt 32 n at s t (take n row.words) (replicate 17 0) (told_places c) (array_vec_len c)
+InsertRowPost at n s t row (Some c) = (n ≤ 17) × InsertedAt 32 n at s t (take n row.words) (replicate 17 0) c.places c.count

@@ -2,9 +2,8 @@
 ghost use Rattle.std.specs.Prelude.{◌≡◌, ◌+◌, ◌*◌, ◌<◌, ◌≤◌, length};
 ghost use Rattle.forms.specs.Insertion.{Inserted, InsertPost, InsertRowPost};
 
-use crate::row::{PLACES, Row};
+use crate::row::{Changes, PLACES, Row};
 use crate::table::{insert_at, table_end};
-use arrayvec::ArrayVec;
 
 /// A row inserted into the form of the table that begins at the word `at` of the lent words, with as many places as the row
 /// has. It tells how many rows of the table changed, and writes their places into `changed`, going down. The row is used up.
@@ -21,24 +20,18 @@ pub fn insert(work: &mut [u32], at: usize, row: &mut [u32], changed: &mut [usize
     Some(pass(&mut work[at..end], row, changed))
 }
 
-/// The same for a row by value, of which the first `n` words count: it tells the places of the rows that changed. `None`,
-/// with nothing changed, if the row has fewer words, or if the table does not fit in.
-pub fn insert_row(
-    work: &mut [u32],
-    at: usize,
-    n: usize,
-    row: Row,
-) -> Option<ArrayVec<usize, PLACES>>
+/// The same for a row by value, of which the first `n` words count. `None`, with nothing changed, if it has fewer, or if
+/// the table does not fit in.
+pub fn insert_row(work: &mut [u32], at: usize, n: usize, row: Row) -> Option<Changes>
     ensures { InsertRowPost at n work.old work.new row result }
 {
     if n > PLACES {
         return None;
     }
     let mut words = row.words;
-    let mut changed = ArrayVec::from([0; PLACES]);
-    let count = insert(work, at, &mut words[..n], changed.as_mut_slice())?;
-    changed.truncate(count);
-    Some(changed)
+    let mut places = [0; PLACES];
+    let count = insert(work, at, &mut words[..n], &mut places[..])?;
+    Some(Changes { count, places })
 }
 
 // One pass over the places, the last first, with the row that is left. The places of the rows that changed go into

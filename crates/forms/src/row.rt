@@ -9,3 +9,11 @@ pub const PLACES: usize = 17;
 pub struct Row {
     pub words: [u32; PLACES],
 }
+
+/// Which rows of a table changed: those of the first `count` places, which go down.
+// A value to be copied, which an `ArrayVec` is not.
+#[derive(Clone, Copy, Debug, PartialEq, Eq)]
+pub struct Changes {
+    pub count: usize,
+    pub places: [usize; PLACES],
+}

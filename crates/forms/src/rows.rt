@@ -30,10 +30,14 @@ pub(crate) fn exchange(v: &mut [u32], t: &mut [u32], unit: u32, k: u32)
     }
 }
 
-// The sum of the products, place by place.
+// The sum of the products, place by place. By `zip` and `fold` the laws of a form take a quarter more time.
 pub(crate) fn dot(c: &[u32], x: &[u32]) -> u32
     requires { length c.now ≡ length x.now }
     ensures { result ≡ dot_of 32 c.now x.now }
 {
-    c.iter().zip(x).fold(0, |sum, (a, b)| mul_add(sum, *a, *b))
+    let mut sum = 0;
+    for (i, a) in c.iter().enumerate() {
+        sum = mul_add(sum, *a, x[i]);
+    }
+    sum
 }

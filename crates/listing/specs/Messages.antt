@@ -56,3 +56,7 @@ refusal_text text words (Number f) = flaw_text (place_of (take f.at text)) (toke
 refusal_text text words (Program e) = program_text (place_of (take (number_at text (min e.at (length words))) text)) (fault_text e.fault (slice_index words e.at))
 refusal_text text words (WordNames n) = names_text (codes "words") n (slice_index words 0)
 refusal_text text words (PointNames n) = names_text (codes "points") n (slice_index words 1)
+
+-- the same on a line of its own
+abbrev pub refusal_line : List ℕ → List ℕ → Refusal → List ℕ
+refusal_line text words r = refusal_text text words r ++ codes "\n"

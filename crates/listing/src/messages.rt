@@ -1,13 +1,15 @@
 //! What a person is told of a refusal: where it is, and what is wrong there.
-ghost use Rattle.std.specs.Prelude.{◌≡◌, min, length};
-ghost use Rattle.listing.specs.Messages.{number_at, refusal_text};
+ghost use Rattle.std.specs.Prelude.{◌≡◌, min, ◌++◌, length, OnOk};
+ghost use Rattle.listing.specs.Messages.{number_at, refusal_text, refusal_line};
 ghost use Rattle.listing.specs.Shown.{message_text};
 
 use crate::quotes::Quoted;
 use crate::refusal::Refusal;
 use programs::step::Fault;
+use std::alloc::AllocError;
 use std::error::Error;
 use std::fmt;
+use std::io::Write;
 use text::numbers::read_numbers;
 use text::places::{place, token};
 use text::types::{Place, What};
@@ -146,4 +148,19 @@ pub fn explain<'a>(text: &'a [u8], words: &mut [u32], refusal: Refusal) -> Messa
             count: words.get(1).copied().unwrap_or(0),
         },
     }
+}
+
+/// Writes what is wrong with the text, and where, as a line behind what `out` holds; `words` holds its numbers, and is
+/// written again.
+pub fn push_refusal(
+    out: &mut Vec<u8>,
+    text: &[u8],
+    words: &mut [u32],
+    refusal: Refusal,
+) -> Result<(), AllocError>
+    ensures { OnOk result (out.new.items ≡ out.old.items ++ refusal_line text.now words.old refusal) }
+{
+    let message = explain(text, words, refusal);
+    // what is written to is a vector, so that only memory can fail
+    writeln!(out, "{message}").map_err(|_| AllocError)
 }

@@ -4,7 +4,7 @@
 #![tactic(auto)]
 
 use anyhow::{Result, ensure};
-use listing::messages::explain;
+use listing::messages::push_refusal;
 use listing::report::tell_steps;
 use std::io;
 use std::io::{Read, Write};
@@ -25,8 +25,9 @@ fn read_text(rt: &HostRuntime) -> io::Result<Vec<u8>> {
     Ok(text)
 }
 
-// Tells the program, or answers why not. An `anyhow::Error` keeps 120 bytes of a text, and no message has more than 88.
-fn run(rt: &HostRuntime) -> Result<()> {
+// Tells the program, or says why not. What is said of a text that is refused is written as the bytes that `push_refusal`
+// promises: an `anyhow::Error` promises of a text that it keeps it, or some of it and dots.
+fn run(rt: &HostRuntime) -> Result<ExitCode> {
     let text = read_text(rt)?;
     ensure!(
         text.len() <= TEXT_BYTES,
@@ -35,18 +36,20 @@ fn run(rt: &HostRuntime) -> Result<()> {
     // as an error of io, which is shown as `out of memory`
     let mut words = vec![in rt.alloc(); 0u32; NUMBERS].map_err(io::Error::from)?;
     let mut out = Vec::new(rt.alloc());
-    tell_steps(&text, &mut words, &mut out).map_err(|refusal| explain(&text, &mut words, refusal))?;
+    if let Err(refusal) = tell_steps(&text, &mut words, &mut out) {
+        let mut message = Vec::new(rt.alloc());
+        push_refusal(&mut message, &text, &mut words, refusal).map_err(io::Error::from)?;
+        rt.stderr().write_all(&message)?;
+        return Ok(ExitCode::FAILURE);
+    }
     rt.stdout().write_all(&out)?;
-    Ok(())
+    Ok(ExitCode::SUCCESS)
 }
 
 // An error that `main` returned would be told by the runtime in its own words.
 fn main(rt: HostRuntime) -> ExitCode {
-    match run(&rt) {
-        Ok(()) => ExitCode::SUCCESS,
-        Err(error) => {
-            let _ = eprintln!(rt; "{error}");
-            ExitCode::FAILURE
-        }
-    }
+    run(&rt).unwrap_or_else(|error| {
+        let _ = eprintln!(rt; "{error}");
+        ExitCode::FAILURE
+    })
 }

@@ -15,6 +15,8 @@ fn held<'a>(line: &'a [u8], key: &[u8]) -> Option<&'a [u8]>
 }
 
 /// What stands behind `# KEY` on the first line that begins so, and has white space or its end there.
+// Inlined, since over empty lines it is slower as a call of its own.
+#[inline(always)]
 pub fn names<'a>(text: &'a [u8], key: &[u8]) -> Option<&'a [u8]>
     ensures { option_map (λ x. x.now) result ≡ names_of key.now text.now }
 {

@@ -10,10 +10,17 @@ use crate::bytes::is_white;
 pub fn count_names(line: &[u8]) -> usize
     ensures { result ≡ length (tokens line.now) }
 {
-    // The chain stands in both functions, since its type can't be named, and a function that answers `impl Iterator` gets no proof.
-    line.split(|b| is_white(*b))
-        .filter(|name| !name.is_empty())
-        .count()
+    // A loop and not the chain of `name`, by which it takes twice the time: that stops at each byte of white space.
+    let mut count = 0;
+    let mut inside = false;
+    for byte in line {
+        let black = !is_white(*byte);
+        if black && !inside {
+            count += 1;
+        }
+        inside = black;
+    }
+    count
 }
 
 /// The name number `i`, from 0.

@@ -8,6 +8,9 @@ use crate::bytes::is_white;
 use crate::modes::{Digits, Mode, Turn};
 use crate::types::{Flaw, What};
 
+// This and the next three are inlined: as calls of their own, for each byte of a text, they make `read_numbers` two to five
+// times as slow.
+#[inline(always)]
 fn after_white(byte: u8) -> Mode
     ensures { result ≡ mode_after_white byte }
 {
@@ -19,6 +22,7 @@ fn after_white(byte: u8) -> Mode
 }
 
 // One more byte of a token. The first byte that is wrong decides what the token lacks.
+#[inline(always)]
 fn grow(digits: Digits, byte: u8) -> Result<Turn, Flaw>
     ensures { result ≡ grown digits byte }
 {
@@ -29,15 +33,14 @@ fn grow(digits: Digits, byte: u8) -> Result<Turn, Flaw>
     let digit = char::from(byte)
         .to_digit(10)
         .ok_or_else(|| lacks(What::NoNumber))?;
-    let value = digits
-        .value
-        .checked_mul(10)
-        .and_then(|value| value.checked_add(digit))
-        .ok_or_else(|| lacks(What::TooLarge))?;
+    // in 64 bits, where no sum is lost; it is faster than a product and a sum that are checked in 32
+    let value = u64::from(digits.value) * 10 + u64::from(digit);
+    let value = u32::try_from(value).map_err(|_| lacks(What::TooLarge))?;
     Ok(Turn::Goes(Mode::Number(Digits { value, ..digits })))
 }
 
 // What the byte at the offset `at` makes of the mode.
+#[inline(always)]
 fn turn_of(mode: Mode, at: usize, byte: u8) -> Result<Turn, Flaw>
     ensures { result ≡ turn_of mode at byte }
 {
@@ -53,6 +56,7 @@ fn turn_of(mode: Mode, at: usize, byte: u8) -> Result<Turn, Flaw>
 }
 
 // Stores the number that ends, if one does: how many numbers there are then, and how the reader goes on.
+#[inline(always)]
 fn settle(turn: Turn, out: &mut [u32], count: usize) -> Result<(usize, Mode), Flaw>
     ensures answer { result ≡ settled turn count (length out.old) }
     ensures store { out.new ≡ stored turn count out.old }

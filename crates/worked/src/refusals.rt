@@ -1,5 +1,5 @@
 //! Texts that hold no program, and what a person is told of them.
-use listing::messages::explain;
+use listing::messages::push_refusal;
 use listing::report::tell_steps;
 use std::test::Fail;
 
@@ -72,8 +72,8 @@ fn messages(rt: HostRuntime) -> Result<(), Fail> {
         let mut out = Vec::new(heap);
         let refusal = tell_steps(text, &mut words, &mut out).err().ok_or("told")?;
         assert!(rt; out.is_empty());
-        let told = explain(text, &mut words, refusal);
-        assert_eq!(rt; format!(in heap; "{told}\n")?.as_bytes(), message);
+        push_refusal(&mut out, text, &mut words, refusal)?;
+        assert_eq!(rt; out.as_slice(), message);
     }
     Ok(())
 }

@@ -1,12 +1,16 @@
-use Rattle.std.proofs.Common.{rules, length, ap, ◌∙◌, tests}
-use Rattle.std.proofs.lemmas.Iterator.Consumers.{YieldsList-at, YieldsList-from_filter, count_from_yields_List}
-use Rattle.std.proofs.lemmas.Iterator.Splits.{YieldsList-from_slice_split}
-use Rattle.text.specs.Bytes.{white}
-use Rattle.text.proofs.Parts.{full, tokens_are}
+use Rattle.std.proofs.Common.{length, ap, arith}
+use Rattle.text.proofs.Starts.{counts_begin, counts_pass, tokens_none}
 use Rattle.text.proofs.names.count_names.Goals as goal
+use Rattle.text.proofs.names.count_names.Goals.{then-black+then-not-inside, else-black}
+
+pub loop-byte-preserved : goal.loop-byte-preserved
+loop-byte-preserved c =
+    elim c.if-black.branch [
+      | then-black+then-not-inside w ↦
+          counts_begin _ _ _ _ c.loop-byte-test.true c.is_white-black.ensures _ _ _ _ w.if-black.true w.if-not-inside.true w.count-is w.inside-is c.loop-byte.invariant
+      | else-black w ↦
+          counts_pass _ _ _ _ c.loop-byte-test.true c.is_white-black.ensures _ _ _ _ w.else-black.either w.count-is w.inside-is c.loop-byte.invariant
+    ]
 
 pub returns : goal.returns
-returns c =
-    count_from_yields_List c.filter.result c.count.result c.count.ensures.ran
-    (YieldsList-from_filter _ full (YieldsList-at c.filter.ensures.source (YieldsList-from_slice_split _ white c.args.line.now c.split.ensures.rest c.split.ensures.done c.split.ensures.closure (λ x b q k. search (rules, tests)))) c.filter.ensures.closure (λ x b q k. search (rules, tests)))
-    ∙ ap length (tokens_are c.args.line.now)
+returns c = omega (arith, c.loop-byte.invariant.0, ap length (tokens_none c.args.line.now c.loop-byte.byte-index c.loop-byte.inside c.loop-byte-test.false))
